@@ -1,0 +1,2 @@
+pub mod LogWalk
+pub mod PatternWalk
