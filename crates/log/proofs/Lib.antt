@@ -1,2 +1,5 @@
 pub mod LogWalk
 pub mod PatternWalk
+pub mod LogRoundTrip
+pub mod PatternRoundTrip
+pub mod Writes
