@@ -1,0 +1,97 @@
+use mathlib.Core.Path.{_≡_, sym, ap, _∙_}
+use Prim.Native.Nat.{_<_}
+use borrow.Author.Needs.{needs}
+use Rattle.event.specs.Limits.{threads}
+use Rattle.event.specs.Slots.{slotOf}
+use Rattle.event.specs.Range.{rangeRefusal}
+use Rattle.event.proofs.InRange.{in-range}
+use Rattle.dependence.specs.Channels.{thread}
+use Rattle.clock.specs.Clocks.{stampBy}
+use Rattle.clock.proofs.RowLaws.{row-fits, Fit, rows-fit}
+use Rattle.clock.proofs.ClockLaws.{stamp-out, clocks-out, stamp-made, clocks-made}
+use Rattle.clock.proofs.History.{arrived}
+use Rattle.clock.proofs.advance.Statement.{statement}
+use Rattle.clock.proofs.advance.Tie as tie
+use Rattle.clock.proofs.advance.Reads as reads
+use Rattle.clock.proofs.advance.Lts as lts
+use Rattle.clock.proofs.listen.Reads as listen-reads
+use Rattle.clock.proofs.rows_of.Reads as rows-of-reads
+use Rattle.clock.proofs.tell.Reads as tell-reads
+use Rattle.event.proofs.range.Reads as range-reads
+use Rattle.event.proofs.slot_of.Reads as slot-of-reads
+
+-- ---- what is known on the way
+
+number : (c : tie.After-range) → c .range .result ≡ rangeRefusal (slotOf (c .before .before .args .e))
+number c = c .range .ensures ∙ ap rangeRefusal (c .before .slot-of .ensures)
+
+within : (c : tie.Else1) → rangeRefusal (slotOf (c .before .before .before .args .e)) ≡ 0
+within c = sym (number (c .before)) ∙ c .if1 .left
+
+low : (c : tie.Else1) → c .before .before .before .args .e .thread < threads
+low c = in-range (slotOf (c .before .before .before .args .e)) (within c) .thread
+
+fit : (c : tie.After-rows-of) → Fit (c .rows-of .result)
+fit c = rows-fit (c .before .before .before .before .before .args .e) _ (within (c .before .before)) (c .rows-of .ensures)
+
+stamped : (c : tie.After-listen)
+    → c .listen .result ≡ stampBy (c .before .before .before .before .before .before .before .args .clocks .now) (c .before .before .before .before .before .before .before .args .e)
+stamped c =
+    let a = c .before .before .before .before .before .before .before .args in
+    stamp-made (a .clocks .now) (a .e) (within (c .before .before .before .before)) _ _ (c .before .before .rows-of .ensures) (c .listen .ensures)
+
+-- ---- the needs
+
+slot-of-requires : tie.Need-slot-of-requires
+slot-of-requires c κs = search needs
+
+range-requires : tie.Need-range-requires
+range-requires c κs = search needs
+
+returns : tie.Need-returns
+returns c =
+    let a = c .before .before .before .args in
+    let out : rangeRefusal (slotOf (a .e)) ≡ 0 → ⊥ = λ z. c .if1 .taken (number (c .before) ∙ z) in
+    arrived (a .clocks .now) (a .e) _ _ (stamp-out (a .clocks .now) (a .e) out) (clocks-out (a .clocks .now) (a .e) out)
+
+cast-t : tie.Need-cast-t
+cast-t c = search needs
+
+rows-of-requires : tie.Need-rows-of-requires
+rows-of-requires c κs = low (c .before)
+
+listen-requires : tie.Need-listen-requires
+listen-requires c κs = let f = fit (c .before) in (low (c .before .before .before), (f .first, f .second))
+
+tell-requires : tie.Need-tell-requires
+tell-requires c κs = fit (c .before .before .before) .told
+
+mul-tell : tie.Need-mul-tell
+mul-tell c = search needs
+
+tell-requires-2 : tie.Need-tell-requires-2
+tell-requires-2 c κs =
+    let s = c .before .before .before .before .before .before .before in
+    row-fits (thread (s .before .before .before .args .e .thread)) (low s)
+
+returns-2 : tie.Need-returns-2
+returns-2 c =
+    let at = c .before .before .before .before in
+    let a = at .before .before .before .before .before .before .before .args in
+    arrived (a .clocks .now) (a .e) _ _ (stamped at)
+    (clocks-made (a .clocks .now) (a .e) (within (at .before .before .before .before)) _ _ _ _ (at .before .before .rows-of .ensures) (stamped at) (c .before .before .tell .ensures) (c .tell2 .ensures))
+
+pub advance-spec : {M : Type 1} → statement M
+advance-spec =
+    tie.close
+    (tie.spec
+    slot-of-requires
+    range-requires
+    returns
+    cast-t
+    rows-of-requires
+    listen-requires
+    tell-requires
+    mul-tell
+    tell-requires-2
+    returns-2)

@@ -1,0 +1,84 @@
+use Prim.Native.Nat.{_≤_, _-_}
+use native.Mathlib.Omega.{arith}
+use mathlib.Core.Path.{_≡_, refl}
+use native.Mathlib.Nat.{zero-add}
+use native.Mathlib.Numerals.{add-one}
+use Rattle.event.specs.Limits.{threads}
+use Rattle.clock.specs.Clocks.{raised}
+use borrow.Author.Needs.{needs}
+use Rattle.clock.proofs.tell.Statement.{statement}
+use Rattle.clock.proofs.tell.Tie as tie
+use Rattle.clock.proofs.tell.Reads as reads
+use Rattle.clock.proofs.tell.Lts as lts
+use Rattle.clock.proofs.larger.Reads as larger-reads
+
+abbrev Inv-loop : tie.InvT-loop
+Inv-loop clocks₀ to s i₀ clocks i = (i ≤ threads) × (clocks ≡ raised i clocks₀ to (s .at) 0)
+
+abbrev μ-loop : tie.MeasureT-loop
+μ-loop clocks₀ to s i₀ clocks i = threads - i
+
+loop-holds : tie.Need-loop-holds Inv-loop μ-loop
+unfolding raised
+loop-holds c = (search needs, refl)
+
+add-larger : tie.Need-add-larger Inv-loop μ-loop
+add-larger c = search needs
+
+mul-larger : tie.Need-mul-larger Inv-loop μ-loop
+mul-larger c = search needs
+
+element-copy-out-larger : tie.Need-element-copy-out-larger Inv-loop μ-loop
+element-copy-out-larger c = search needs
+
+mul-larger-2 : tie.Need-mul-larger-2 Inv-loop μ-loop
+mul-larger-2 c = search needs
+
+element-copy-out-larger-2 : tie.Need-element-copy-out-larger-2 Inv-loop μ-loop
+element-copy-out-larger-2 c = search needs
+
+larger-requires : tie.Need-larger-requires Inv-loop μ-loop
+larger-requires c κs = search needs
+
+add-clocks : tie.Need-add-clocks Inv-loop μ-loop
+add-clocks c = search needs
+
+mul-clocks : tie.Need-mul-clocks Inv-loop μ-loop
+mul-clocks c = search needs
+
+element-write-clocks : tie.Need-element-write-clocks Inv-loop μ-loop
+element-write-clocks c = search needs
+
+add-i : tie.Need-add-i Inv-loop μ-loop
+add-i c = search needs
+
+loop-less : tie.Need-loop-less Inv-loop μ-loop
+loop-less c = search needs
+
+loop-again : tie.Need-loop-again Inv-loop μ-loop
+unfolding raised
+loop-again c = (search needs, rw (add-one, zero-add, c .larger .ensures, c .before .before .before .before .loop .inv .1))
+
+returns : tie.Need-returns Inv-loop μ-loop
+returns c = let k : c .before .loop .i ≡ threads = omega arith in rw k at (c .before .loop .inv .1)
+
+pub tell-spec : {M : Type 1} → statement M
+tell-spec =
+    tie.close
+    (tie.spec
+    Inv-loop
+    μ-loop
+    loop-holds
+    add-larger
+    mul-larger
+    element-copy-out-larger
+    mul-larger-2
+    element-copy-out-larger-2
+    larger-requires
+    add-clocks
+    mul-clocks
+    element-write-clocks
+    add-i
+    loop-less
+    loop-again
+    returns)

@@ -1,0 +1,84 @@
+-- The stamp that the clocks give an event, and what they are once it has arrived, for every list of entries and every event.
+-- Assumes nothing.
+use Prim.Native.Nat.{ℕ, zero, suc, _+_, max}
+use mathlib.Core.Bool.{Bool, cond, _&&_}
+use mathlib.Core.List.{List}
+use lib.Dec.{eqb, leb, ltb}
+use lib.ListN.{getD, set, replicate}
+use Rattle.event.specs.declared.Event.{Event}
+use Rattle.event.specs.Limits.{threads}
+use Rattle.event.specs.Slots.{slotOf}
+use Rattle.event.specs.Range.{rangeRefusal}
+use Rattle.dependence.specs.Channels.{thread}
+use Rattle.clock.specs.declared.Rows.{Rows}
+use Rattle.clock.specs.declared.Stamp.{Stamp}
+use Rattle.clock.specs.Rows.{rowOf, beside, rowsFor}
+
+-- ---- raising entries
+
+-- the list with its entry i raised to y, where that is higher
+abbrev pub raiseAt : List ℕ → ℕ → ℕ → List ℕ
+raiseAt xs i y = set xs i (max (getD xs i 0) y)
+
+-- the list xs, its n entries from f on raised to those of ys from g on
+unfoldable pub raised : ℕ → List ℕ → ℕ → List ℕ → ℕ → List ℕ
+raised zero xs f ys g = xs
+raised (suc n) xs f ys g = raiseAt (raised n xs f ys g) (f + n) (getD ys (g + n) 0)
+
+-- the stamp raised to the row of the clocks that starts at f
+abbrev pub heardFrom : Stamp → List ℕ → ℕ → Stamp
+heardFrom s clocks f = record { at = raised threads (s .at) 0 clocks f }
+
+-- the clocks, their row that starts at f raised to the stamp
+abbrev pub toldTo : List ℕ → ℕ → Stamp → List ℕ
+toldTo clocks f s = raised threads clocks f (s .at) 0
+
+-- ---- counts
+
+-- the highest count that an entry holds
+abbrev pub highestCount : ℕ
+highestCount = 65535
+
+-- one more, up to the highest count
+abbrev pub up : ℕ → ℕ
+up x = cond (ltb x highestCount) (x + 1) x
+
+-- the stamp with one more of the thread t
+abbrev pub tickedAt : Stamp → ℕ → Stamp
+tickedAt s t = record { at = set (s .at) t (up (getD (s .at) t 0)) }
+
+-- no counts
+abbrev pub noStamp : Stamp
+noStamp = record { at = replicate threads 0 }
+
+-- ---- an event arrives
+
+-- the highest counts in its own row and in two more, with one more of its own thread t
+unfoldable pub heard : List ℕ → ℕ → Rows → Stamp
+heard clocks t r = tickedAt (heardFrom (heardFrom (heardFrom noStamp clocks (rowOf (thread t))) clocks (r .first)) clocks (r .second)) t
+
+-- the clocks, its own row and one more raised to its stamp
+unfoldable pub told : List ℕ → ℕ → Rows → Stamp → List ℕ
+told clocks t r s = toldTo (toldTo clocks (r .told) s) (rowOf (thread t)) s
+
+-- where the rows of the event start, beside its own
+abbrev pub rowsOf : Event → Rows
+rowsOf e = rowsFor (beside e)
+
+-- each number of the event is within its limit
+abbrev pub withinLimits : Event → Bool
+withinLimits e = eqb (rangeRefusal (slotOf e)) 0
+
+-- the stamp that the clocks give the event: no counts where a number is outside its limit
+unfoldable pub stampBy : List ℕ → Event → Stamp
+stampBy clocks e = cond (withinLimits e) (heard clocks (e .thread) (rowsOf e)) noStamp
+
+-- the clocks once the event has arrived: as they were where a number is outside its limit
+unfoldable pub clocksAfter : List ℕ → Event → List ℕ
+clocksAfter clocks e = cond (withinLimits e) (told clocks (e .thread) (rowsOf e) (stampBy clocks e)) clocks
+
+-- ---- an order query
+
+-- the event that was number `place` of the thread t, counted from 1, comes before the one stamped `later` or is it
+abbrev pub comesBefore : ℕ → ℕ → Stamp → Bool
+comesBefore t place later = ltb t threads && leb place (getD (later .at) t 0)

@@ -1,0 +1,186 @@
+// Vector clocks, updated in place as the events of a log arrive: each event is given its stamp.
+use event::Event;
+use event::Operation;
+ghost use mathlib.Core.Path.{_≡_};
+ghost use mathlib.Core.Bool.{cond};
+ghost use mathlib.Core.List.{List, []};
+ghost use Prim.Native.Nat.{_+_, _≤_, _<_, max};
+ghost use lib.ListN.{length, replicate};
+ghost use Rattle.event.specs.declared.Event.{Event};
+ghost use Rattle.event.specs.Limits.{threads, events};
+ghost use Rattle.event.specs.Slots.{slotOf};
+ghost use Rattle.event.specs.Range.{rangeRefusal};
+ghost use Rattle.dependence.specs.Dependence.{touches};
+ghost use Rattle.clock.specs.Rows.{size, besideOf, rowsFor};
+ghost use Rattle.clock.specs.Clocks.{up, tickedAt, heardFrom, toldTo, heard, stampBy, clocksAfter, comesBefore};
+ghost use Rattle.clock.specs.Holds.{Holds, Arrived};
+
+// A row has an entry for each thread. There is a row for each thread, for the reads and for the writes of each variable, and for each lock.
+pub const THREADS: usize = event::THREADS as usize;
+
+const FIRST_READS: usize = THREADS;
+
+const FIRST_WRITES: usize = FIRST_READS + event::VARIABLES as usize;
+
+const FIRST_LOCK: usize = FIRST_WRITES + event::VARIABLES as usize;
+// The highest count that an entry holds.
+const HIGHEST: u16 = 65535;
+
+pub const CLOCKS: usize = (FIRST_LOCK + event::LOCKS as usize) * THREADS;
+
+// For each thread, how many of its events come before the stamped one or are it.
+pub struct Stamp {
+    pub at: [u16; THREADS],
+}
+
+// Where the rows start that an event hears and tells beside its own; its own again where there is none.
+struct Rows {
+    first: usize,
+    second: usize,
+    told: usize,
+}
+
+// The clocks of no events.
+pub fn fresh() -> [u16; CLOCKS]
+    ensures zeros { λ r. ⌜ r ≡ replicate size 0 ⌝ }
+    ensures history { λ r. ⌜ Holds [] r ⌝ }
+{
+    [0; CLOCKS]
+}
+
+// Takes one event and gives its stamp. One whose numbers are outside their limits gets no counts, and leaves the clocks as they were.
+pub fn advance(clocks: &mut [u16; CLOCKS], e: Event) -> Stamp
+    ensures stamp { λ r. ⌜ r ≡ stampBy (now (clocks .entry)) e ⌝ }
+    ensures after { λ r. ⌜ now (clocks .exit) ≡ clocksAfter (now (clocks .entry)) e ⌝ }
+    ensures history { λ r. ⌜ ((log : List Event) → Holds log (now (clocks .entry)) → length log < events → rangeRefusal (slotOf e) ≡ 0 → Arrived log e r (now (clocks .exit))) ⌝ }
+{
+    let k = event::range(event::slot_of(e));
+    if k != 0 {
+        return Stamp { at: [0; THREADS] };
+    }
+    let t = e.thread as usize;
+    let op = e.operation;
+    let rows = rows_of(t, op);
+    let s = listen(clocks, t, rows);
+    tell(clocks, rows.told, s);
+    tell(clocks, t * THREADS, s);
+    s
+}
+
+fn rows_of(t: usize, op: Operation) -> Rows
+    requires { ⌜ t < threads ⌝ }
+    ensures { λ r. ⌜ r ≡ rowsFor (besideOf t (touches op)) ⌝ }
+{
+    match op {
+        Operation::Read { variable } => {
+            let reads = (FIRST_READS + variable as usize) * THREADS;
+            let writes = (FIRST_WRITES + variable as usize) * THREADS;
+            Rows {
+                first: writes,
+                second: writes,
+                told: reads,
+            }
+        }
+        Operation::Write {
+            variable,
+            height: _,
+        } => {
+            let reads = (FIRST_READS + variable as usize) * THREADS;
+            let writes = (FIRST_WRITES + variable as usize) * THREADS;
+            Rows {
+                first: writes,
+                second: reads,
+                told: writes,
+            }
+        }
+        Operation::Acquire { lock } => one_row((FIRST_LOCK + lock as usize) * THREADS),
+        Operation::Release { lock } => one_row((FIRST_LOCK + lock as usize) * THREADS),
+        Operation::Fork { child } => one_row(child as usize * THREADS),
+        Operation::Join { child } => one_row(child as usize * THREADS),
+        Operation::Mark { mark: _ } => one_row(t * THREADS),
+    }
+}
+
+fn one_row(row: usize) -> Rows
+    ensures { λ r. ⌜ r ≡ record { first = row; second = row; told = row } ⌝ }
+{
+    Rows {
+        first: row,
+        second: row,
+        told: row,
+    }
+}
+
+// What an event of thread t hears, with one more of its own thread.
+fn listen(clocks: &[u16; CLOCKS], t: usize, rows: Rows) -> Stamp
+    requires { ⌜ (t < threads) × ((rows .first + threads ≤ size) × (rows .second + threads ≤ size)) ⌝ }
+    ensures { λ r. ⌜ r ≡ heard (now (clocks .entry)) t rows ⌝ }
+{
+    let none = Stamp { at: [0; THREADS] };
+    let own = hear(none, clocks, t * THREADS);
+    let first = hear(own, clocks, rows.first);
+    let both = hear(first, clocks, rows.second);
+    tick(both, t)
+}
+
+fn hear(s: Stamp, clocks: &[u16; CLOCKS], from: usize) -> Stamp
+    requires { ⌜ from + threads ≤ size ⌝ }
+    ensures { λ r. ⌜ r ≡ heardFrom s (now (clocks .entry)) from ⌝ }
+{
+    let mut r = s;
+    for i in 0..THREADS {
+        let count = larger(r.at[i], clocks[from + i]);
+        r.at[i] = count;
+    }
+    r
+}
+
+fn tell(clocks: &mut [u16; CLOCKS], to: usize, s: Stamp)
+    requires { ⌜ to + threads ≤ size ⌝ }
+    ensures { λ _. ⌜ now (clocks .exit) ≡ toldTo (now (clocks .entry)) to s ⌝ }
+{
+    for i in 0..THREADS {
+        let count = larger(clocks[to + i], s.at[i]);
+        clocks[to + i] = count;
+    }
+}
+
+fn larger(x: u16, y: u16) -> u16
+    ensures { λ r. ⌜ r ≡ max x y ⌝ }
+{
+    if x < y { y } else { x }
+}
+
+// Goes through every entry, so that the row stays one vector.
+fn tick(s: Stamp, t: usize) -> Stamp
+    requires { ⌜ t < threads ⌝ }
+    ensures { λ r. ⌜ r ≡ tickedAt s t ⌝ }
+{
+    let mut r = s;
+    for i in 0..THREADS {
+        let count = next_count(r.at[i], i == t);
+        r.at[i] = count;
+    }
+    r
+}
+
+// One more for an event of the own thread, so far as a count goes.
+fn next_count(x: u16, own: bool) -> u16
+    ensures { λ r. ⌜ r ≡ cond own (up x) x ⌝ }
+{
+    if !own {
+        return x;
+    }
+    if x < HIGHEST { x + 1 } else { x }
+}
+
+// Whether the event that was number `place` of its thread, counted from 1, comes before the one stamped `later` or is it.
+pub fn comes_before(thread: u8, place: u16, later: Stamp) -> bool
+    ensures { λ r. ⌜ r ≡ comesBefore thread place later ⌝ }
+{
+    let t = thread as usize;
+    if t >= THREADS {
+        return false;
+    }
+    place <= later.at[t]
+}

@@ -1,0 +1,19 @@
+use borrow.Author.Tests.{eq-eqb, ne-eqb}
+use borrow.Author.Needs.{needs}
+use Rattle.order.proofs.Watch.meet.Statement.{statement}
+use Rattle.order.proofs.Watch.meet.Tie as tie
+use Rattle.order.proofs.Watch.meet.Reads as reads
+use Rattle.order.proofs.Watch.meet.Lts as lts
+use Rattle.order.proofs.own_count.Reads as own-count-reads
+
+returns : tie.Need-returns
+returns c = rw (ne-eqb _ _ (c .if1 .taken))
+
+own-count-requires : tie.Need-own-count-requires
+own-count-requires c κs = search needs
+
+returns-2 : tie.Need-returns-2
+returns-2 c = rw (eq-eqb _ _ (c .before .if1 .left)) (cc (c .own-count .ensures))
+
+pub meet-spec : {M : Type 1} → statement M
+meet-spec = tie.close (tie.spec returns own-count-requires returns-2)

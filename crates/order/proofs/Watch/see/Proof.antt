@@ -1,0 +1,22 @@
+use mathlib.Core.Path.{ap, _∙_}
+use Rattle.order.specs.declared.Watch.{Watch}
+use Rattle.order.specs.Watching.{judged}
+use borrow.Author.Needs.{needs}
+use Rattle.order.proofs.Watch.see.Statement.{statement}
+use Rattle.order.proofs.Watch.see.Tie as tie
+use Rattle.order.proofs.Watch.see.Reads as reads
+use Rattle.order.proofs.Watch.see.Lts as lts
+use Rattle.order.proofs.Watch.judge.Reads as judge-reads
+use Rattle.order.proofs.Watch.meet.Reads as meet-reads
+
+meet-requires : tie.Need-meet-requires
+meet-requires c κs = search needs
+
+judge-requires : tie.Need-judge-requires
+judge-requires c κs = search needs
+
+returns : tie.Need-returns
+returns c = c .judge .ensures ∙ ap (λ (w : Watch). judged w (c .before .before .args .n) (c .before .before .args .stamp)) (c .before .meet .ensures)
+
+pub see-spec : {M : Type 1} → statement M
+see-spec = tie.close (tie.spec meet-requires judge-requires returns)

@@ -1,0 +1,21 @@
+use borrow.Author.Tests.{lt-ltb, le-ltb}
+use borrow.Author.Needs.{needs}
+use Rattle.order.proofs.own_count.Statement.{statement}
+use Rattle.order.proofs.own_count.Tie as tie
+use Rattle.order.proofs.own_count.Reads as reads
+use Rattle.order.proofs.own_count.Lts as lts
+
+returns : tie.Need-returns
+returns c = rw (le-ltb _ _ (c .if1 .taken))
+
+mul-result : tie.Need-mul-result
+mul-result c = search needs
+
+element-copy-out-result : tie.Need-element-copy-out-result
+element-copy-out-result c = search needs
+
+returns-2 : tie.Need-returns-2
+returns-2 c = rw (lt-ltb _ _ (c .before .if1 .left))
+
+pub own-count-spec : {M : Type 1} → statement M
+own-count-spec = tie.close (tie.spec returns mul-result element-copy-out-result returns-2)
