@@ -1,14 +1,13 @@
 -- What is kept of the events that passed is right for the list of them, and stays so as the next one passes.
-use Prim.Native.Nat.{ℕ, suc, _+_, _<_, _≤_}
+use Prim.Native.Nat.{ℕ, _+_, _<_, _≤_}
 use native.Mathlib.Nat.{le-refl}
 use native.Mathlib.Numerals.{add-one}
-use native.Mathlib.Decide.{decLe, ℕ-discrete}
 use native.Mathlib.Omega.{arith}
-use mathlib.Core.Path.{_≡_, refl, sym, ap, subst, _∙_}
+use mathlib.Core.Path.{_≡_, refl, sym, subst, _∙_}
 use mathlib.Core.Logic.{_↔_}
 use mathlib.Core.Bool.{Bool, true, false, cond, false≢true}
 use mathlib.Core.List.{List, [], _∷_, _++_, reverse, reverse-cons}
-use lib.Dec.{eqb, ltb, leb}
+use lib.Dec.{eqb, ltb}
 use lib.ListN.{length, getD, length-append, length-reverse}
 use borrow.Author.Tests.{eqb-true, eqb-false, lt-ltb, ltb-true, ltb-false, le-leb, leb-true}
 use Rattle.event.proofs.Tests.{by-test}
@@ -25,8 +24,8 @@ use Rattle.clock.specs.Clocks.{comesBefore}
 use Rattle.clock.specs.Holds.{StampOf, Holds, Arrived}
 use Rattle.log.specs.Whole.{readLog, accepted}
 use Rattle.order.specs.declared.Watch.{Watch}
-use Rattle.order.specs.Query.{Outcome, yes, no, query-refused, IsNumber, Answers, no-number, before, not-before}
-use Rattle.order.specs.Watching.{ownCount, met, judged, seen, answered}
+use Rattle.order.specs.Query.{yes, no, query-refused, IsNumber, Answers, no-number, before, not-before}
+use Rattle.order.specs.Watching.{met, judged, seen, answered}
 
 pub record Watched (es : List Event) (i j : ℕ) (w : Watch) : Type 0 where
   pub first : w .first ≡ i

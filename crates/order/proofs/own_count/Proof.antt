@@ -2,8 +2,6 @@ use borrow.Author.Tests.{lt-ltb, le-ltb}
 use borrow.Author.Needs.{needs}
 use Rattle.order.proofs.own_count.Statement.{statement}
 use Rattle.order.proofs.own_count.Tie as tie
-use Rattle.order.proofs.own_count.Reads as reads
-use Rattle.order.proofs.own_count.Lts as lts
 
 returns : tie.Need-returns
 returns c = rw (le-ltb _ _ (c .if1 .taken))

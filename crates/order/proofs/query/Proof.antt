@@ -1,4 +1,4 @@
-use Prim.Native.Nat.{ℕ, _-_, _<_}
+use Prim.Native.Nat.{_-_, _<_}
 use native.Mathlib.Omega.{arith}
 use mathlib.Core.Path.{_≡_, sym, ap, _∙_}
 use mathlib.Core.List.{List, [], _∷_, reverse}
@@ -17,15 +17,6 @@ use Rattle.order.specs.Query.{refused-log}
 use Rattle.order.proofs.Watched.{Watched, nothing-yet, answers, next}
 use Rattle.order.proofs.query.Statement.{statement}
 use Rattle.order.proofs.query.Tie as tie
-use Rattle.order.proofs.query.Reads as reads
-use Rattle.order.proofs.query.Lts as lts
-use Rattle.clock.proofs.advance.Reads as advance-reads
-use Rattle.clock.proofs.fresh.Reads as fresh-reads
-use Rattle.command.proofs.decode.Reads as decode-reads
-use Rattle.order.proofs.Watch.answer.Reads as answer-reads
-use Rattle.order.proofs.Watch.see.Reads as see-reads
-use Rattle.rules.proofs.admit.Reads as admit-reads
-use Rattle.rules.proofs.fresh.Reads as fresh-reads′
 
 abbrev Inv-loop : tie.InvT-loop
 Inv-loop log first second state₀ clocks₀ watch₀ taken₀ at₀ state clocks watch taken at =

@@ -1,8 +1,6 @@
 use borrow.Author.Tests.{eq-eqb, ne-eqb, lt-ltb, le-ltb}
 use Rattle.order.proofs.Watch.answer.Statement.{statement}
 use Rattle.order.proofs.Watch.answer.Tie as tie
-use Rattle.order.proofs.Watch.answer.Reads as reads
-use Rattle.order.proofs.Watch.answer.Lts as lts
 
 returns : tie.Need-returns
 returns c = rw (eq-eqb _ _ (c .if1 .taken))

@@ -2,9 +2,6 @@ use borrow.Author.Tests.{eq-eqb, ne-eqb, lt-ltb, le-ltb}
 use borrow.Author.Needs.{needs}
 use Rattle.order.proofs.Watch.judge.Statement.{statement}
 use Rattle.order.proofs.Watch.judge.Tie as tie
-use Rattle.order.proofs.Watch.judge.Reads as reads
-use Rattle.order.proofs.Watch.judge.Lts as lts
-use Rattle.clock.proofs.comes_before.Reads as comes-before-reads
 
 returns : tie.Need-returns
 returns c = rw (ne-eqb _ _ (c .if1 .taken))

@@ -2,9 +2,6 @@ use borrow.Author.Tests.{eq-eqb, ne-eqb}
 use borrow.Author.Needs.{needs}
 use Rattle.order.proofs.Watch.meet.Statement.{statement}
 use Rattle.order.proofs.Watch.meet.Tie as tie
-use Rattle.order.proofs.Watch.meet.Reads as reads
-use Rattle.order.proofs.Watch.meet.Lts as lts
-use Rattle.order.proofs.own_count.Reads as own-count-reads
 
 returns : tie.Need-returns
 returns c = rw (ne-eqb _ _ (c .if1 .taken))

@@ -4,10 +4,6 @@ use Rattle.order.specs.Watching.{judged}
 use borrow.Author.Needs.{needs}
 use Rattle.order.proofs.Watch.see.Statement.{statement}
 use Rattle.order.proofs.Watch.see.Tie as tie
-use Rattle.order.proofs.Watch.see.Reads as reads
-use Rattle.order.proofs.Watch.see.Lts as lts
-use Rattle.order.proofs.Watch.judge.Reads as judge-reads
-use Rattle.order.proofs.Watch.meet.Reads as meet-reads
 
 meet-requires : tie.Need-meet-requires
 meet-requires c κs = search needs
