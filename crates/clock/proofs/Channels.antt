@@ -29,11 +29,12 @@ heard-of f t nothing = omega arith
 
 -- ---- told
 
+-- rows counted from the same one
 shift : (k m n : ℕ) → eqb (k + m) (k + n) ≡ eqb m n
 shift k m n =
     same-test (eqb (k + m) (k + n)) (eqb m n)
-    (λ h. eq-eqb m n (let p : k + m ≡ k + n = eqb-true _ _ h in let z : m ≡ n = omega arith in z))
-    (λ h. eq-eqb (k + m) (k + n) (let p : m ≡ n = eqb-true _ _ h in let z : k + m ≡ k + n = omega arith in z))
+    (λ h. eq-eqb m n (let p : k + m ≡ k + n = eqb-true _ _ h in omega arith))
+    (λ h. eq-eqb (k + m) (k + n) (let p : m ≡ n = eqb-true _ _ h in omega arith))
 
 module _ (t : ℕ) (low : t < threads) where
   -- the row n is the own row or the other one that is told
@@ -44,15 +45,15 @@ module _ (t : ℕ) (low : t < threads) where
   Limited x = Known (besideOf t x .told)
 
   at-thread : (x : Touch) (u : ℕ) → Limited x → u < threads → toldRow x u ≡ same (named x) (some u) || eqb t u
-  at-thread (reads v) u k l = rw (ne-eqb (threads + v) u (λ p. let f : ⊥ = omega arith in f))
-  at-thread (writes v) u k l = rw (ne-eqb (threads + variables + v) u (λ p. let f : ⊥ = omega arith in f))
-  at-thread (locks m) u k l = rw (ne-eqb (threads + variables + variables + m) u (λ p. let f : ⊥ = omega arith in f))
+  at-thread (reads v) u k l = rw (ne-eqb (threads + v) u (omega arith))
+  at-thread (writes v) u k l = rw (ne-eqb (threads + variables + v) u (omega arith))
+  at-thread (locks m) u k l = rw (ne-eqb (threads + variables + variables + m) u (omega arith))
   at-thread (names c) u k l = refl
   at-thread nothing u k l = or-self (eqb t u)
 
   -- past the threads the own row is out
   other-row : (n : ℕ) (b : Bool) → threads ≤ n → b || eqb t n ≡ b
-  other-row n b l = rw (ne-eqb t n (λ p. let f : ⊥ = omega arith in f)) (or-false b)
+  other-row n b l = rw (ne-eqb t n (omega arith)) (or-false b)
 
   miss : (m n : ℕ) → (m ≡ n → ⊥) → threads ≤ n → eqb m n || eqb t n ≡ false
   miss m n d l = other-row n (eqb m n) l ∙ ne-eqb m n d
@@ -60,29 +61,29 @@ module _ (t : ℕ) (low : t < threads) where
   at-reads : (x : Touch) (w : ℕ) → Limited x → w < variables
       → toldRow x (threads + w) ≡ not (isWrite x) && same (variable x) (some w)
   at-reads (reads v) w k l = other-row (threads + w) _ (omega arith) ∙ shift threads v w
-  at-reads (writes v) w k l = miss (threads + variables + v) (threads + w) (λ p. let f : ⊥ = omega arith in f) (omega arith)
-  at-reads (locks m) w k l = miss (threads + variables + variables + m) (threads + w) (λ p. let f : ⊥ = omega arith in f) (omega arith)
-  at-reads (names c) w k l = miss c (threads + w) (λ p. let f : ⊥ = omega arith in f) (omega arith)
-  at-reads nothing w k l = miss t (threads + w) (λ p. let f : ⊥ = omega arith in f) (omega arith)
+  at-reads (writes v) w k l = miss (threads + variables + v) (threads + w) (omega arith) (omega arith)
+  at-reads (locks m) w k l = miss (threads + variables + variables + m) (threads + w) (omega arith) (omega arith)
+  at-reads (names c) w k l = miss c (threads + w) (omega arith) (omega arith)
+  at-reads nothing w k l = miss t (threads + w) (omega arith) (omega arith)
 
   at-writes : (x : Touch) (w : ℕ) → Limited x → w < variables
       → toldRow x (threads + variables + w) ≡ isWrite x && same (variable x) (some w)
-  at-writes (reads v) w k l = miss (threads + v) (threads + variables + w) (λ p. let f : ⊥ = omega arith in f) (omega arith)
+  at-writes (reads v) w k l = miss (threads + v) (threads + variables + w) (omega arith) (omega arith)
   at-writes (writes v) w k l = other-row (threads + variables + w) _ (omega arith) ∙ shift (threads + variables) v w
   at-writes (locks m) w k l =
-      miss (threads + variables + variables + m) (threads + variables + w) (λ p. let f : ⊥ = omega arith in f) (omega arith)
-  at-writes (names c) w k l = miss c (threads + variables + w) (λ p. let f : ⊥ = omega arith in f) (omega arith)
-  at-writes nothing w k l = miss t (threads + variables + w) (λ p. let f : ⊥ = omega arith in f) (omega arith)
+      miss (threads + variables + variables + m) (threads + variables + w) (omega arith) (omega arith)
+  at-writes (names c) w k l = miss c (threads + variables + w) (omega arith) (omega arith)
+  at-writes nothing w k l = miss t (threads + variables + w) (omega arith) (omega arith)
 
   at-lock : (x : Touch) (n : ℕ) → Limited x → toldRow x (threads + variables + variables + n) ≡ same (lock x) (some n)
   at-lock (reads v) n k =
-      miss (threads + v) (threads + variables + variables + n) (λ p. let f : ⊥ = omega arith in f) (omega arith)
+      miss (threads + v) (threads + variables + variables + n) (omega arith) (omega arith)
   at-lock (writes v) n k =
-      miss (threads + variables + v) (threads + variables + variables + n) (λ p. let f : ⊥ = omega arith in f) (omega arith)
+      miss (threads + variables + v) (threads + variables + variables + n) (omega arith) (omega arith)
   at-lock (locks m) n k =
       other-row (threads + variables + variables + n) _ (omega arith) ∙ shift (threads + variables + variables) m n
-  at-lock (names c) n k = miss c (threads + variables + variables + n) (λ p. let f : ⊥ = omega arith in f) (omega arith)
-  at-lock nothing n k = miss t (threads + variables + variables + n) (λ p. let f : ⊥ = omega arith in f) (omega arith)
+  at-lock (names c) n k = miss c (threads + variables + variables + n) (omega arith) (omega arith)
+  at-lock nothing n k = miss t (threads + variables + variables + n) (omega arith) (omega arith)
 
 -- the own row and the other one that is told are the rows of the channels that the event tells
 pub told-of : (e : Event) (c : Channel) → e .thread < threads → Known (beside e .told) → Known c

@@ -30,19 +30,20 @@ tickedTo n xs t = cond (ltb t n) (set xs t (up (getD xs t 0))) xs
 put-back : (xs : List ℕ) (i : ℕ) (b : Bool) → b ≡ false → set xs i (cond b (up (getD xs i 0)) (getD xs i 0)) ≡ xs
 put-back xs i b q = rw q (set-getD xs i 0)
 
-pub tick-step : (xs : List ℕ) (t i : ℕ)
-    → set (tickedTo i xs t) i (cond (eqb i t) (up (getD (tickedTo i xs t) i 0)) (getD (tickedTo i xs t) i 0)) ≡ tickedTo (i + 1) xs t
+-- the next entry
+abbrev TickStep : List ℕ → ℕ → ℕ → Type 0
+TickStep xs t i =
+    set (tickedTo i xs t) i (cond (eqb i t) (up (getD (tickedTo i xs t) i 0)) (getD (tickedTo i xs t) i 0)) ≡ tickedTo (i + 1) xs t
+
+pub tick-step : (xs : List ℕ) (t i : ℕ) → TickStep xs t i
 tick-step xs t i = by-test (eqb i t) here elsewhere
   where
-    Step : Type 0
-    Step = set (tickedTo i xs t) i (cond (eqb i t) (up (getD (tickedTo i xs t) i 0)) (getD (tickedTo i xs t) i 0)) ≡ tickedTo (i + 1) xs t
-
-    here : eqb i t ≡ true → Step
+    here : eqb i t ≡ true → TickStep xs t i
     here q =
         let p : i ≡ t = eqb-true i t q in
         rw (q, p, le-ltb t t (omega arith), lt-ltb t (t + 1) (omega arith))
 
-    elsewhere : eqb i t ≡ false → Step
+    elsewhere : eqb i t ≡ false → TickStep xs t i
     elsewhere q =
         put-back (tickedTo i xs t) i (eqb i t) q
         ∙ ap (λ (b : Bool). cond b (set xs t (up (getD xs t 0))) xs) (same-test (ltb t i) (ltb t (i + 1)) later sooner)

@@ -48,9 +48,9 @@ module _ (xs : List ℕ) (f : ℕ) (ys : List ℕ) (g : ℕ) where
           let low : f + n < length (raised n xs f ys g) = rw (raised-length n) (omega arith) in
           rw p
           (getD-set-same (raised n xs f ys g) (f + n) _ 0 low
-          ∙ ap (λ (x : ℕ). max x (getD ys (g + n) 0)) (raised-outside n (f + n) (λ j u e. let z : ⊥ = omega arith in z)))
+          ∙ ap (λ (x : ℕ). max x (getD ys (g + n) 0)) (raised-outside n (f + n) (λ j u. omega arith)))
       go (no d) ih =
-          getD-set-other (raised n xs f ys g) (f + n) (f + i) _ 0 (λ e. d (let z : i ≡ n = omega arith in z)) ∙ ih (omega arith)
+          getD-set-other (raised n xs f ys g) (f + n) (f + i) _ 0 (omega arith) ∙ ih (omega arith)
 
 -- ---- the entries of a stamp
 
@@ -121,14 +121,11 @@ row-told xs s a b u low fits =
     let p : a ≡ b = eqb-true a b q in
     rw (q, p) (rw zero-add at (raised-inside xs (b * threads) (s .at) 0 threads u low (rw p at fits)) ∙ max-turn _ _))
     (λ q.
-    rw q (raised-outside xs (a * threads) (s .at) 0 threads (b * threads + u)
-    (λ i l e. let d = eqb-false a b q in apart i l e d)))
+    rw q
+    (raised-outside xs (a * threads) (s .at) 0 threads (b * threads + u) (λ i l e. eqb-false a b q (omega arith))))
   where
     max-turn : (m n : ℕ) → max m n ≡ max n m
     max-turn m n = omega arith
-
-    apart : (i : ℕ) → i < threads → b * threads + u ≡ a * threads + i → (a ≡ b → ⊥) → ⊥
-    apart i l e d = d (let z : a ≡ b = omega arith in z)
 
 -- two rows, one after the other
 pub told-entry : (clocks : List ℕ) (t : ℕ) (r : Rows) (s : Stamp) (d b u : ℕ) → r .told ≡ d * threads → u < threads

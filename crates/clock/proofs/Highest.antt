@@ -50,32 +50,35 @@ module _ (other : Event) (log : List Event) (c : Channel) (t : ℕ) where
   abbrev pub kept : ℕ
   kept = clock other dependent threadOf tells log c t
 
+  abbrev telling : ℕ → Bool
+  telling k = tells (eventAt other log k) c
+
   abbrev stampAt : ℕ → ℕ
   stampAt k = stampOf other dependent threadOf log k t
 
   pub kept-le : kept ≤ length log
   unfolding clock stamp
-  kept-le = highest-le (λ k. tells (eventAt other log k) c) stampAt (length log) (length log) (λ k u h. le-trans (tally-le _ k) (u .1))
+  kept-le = highest-le telling stampAt (length log) (length log) (λ k u h. le-trans (tally-le _ k) (u .1))
 
   kept-high : (n : ℕ) → Told log c t n → n ≤ kept
   unfolding clock
   kept-high n d =
       let u = numbered-among (d .2) in
       let p : stampAt (d .0) ≡ n = stamp-unique other dependent threadOf log (d .0) t n u (d .4) in
-      rw p at (highest-ge (λ k. tells (eventAt other log k) c) stampAt (length log) (d .0) u (ap (λ (a : Event). tells a c) (numbered-at other (d .2)) ∙ d .3))
+      rw p at (highest-ge telling stampAt (length log) (d .0) u (ap (λ (a : Event). tells a c) (numbered-at other (d .2)) ∙ d .3))
 
-  told-at : (k : ℕ) → Among (length log) k → tells (eventAt other log k) c ≡ true → Told log c t (stampAt k)
+  told-at : (k : ℕ) → Among (length log) k → telling k ≡ true → Told log c t (stampAt k)
   told-at k u h = (k, eventAt other log k, at-numbered other log k u, h, stamp-is other dependent threadOf log k t u)
 
   pub kept-is : IsClock log c t kept
   unfolding clock
   kept-is =
       record {
-        reached = go (highest-reached (λ k. tells (eventAt other log k) c) stampAt (length log));
+        reached = go (highest-reached telling stampAt (length log));
         highest = kept-high;
       }
     where
-      go : (kept ≡ 0) ⊎ ((k : ℕ) × Among (length log) k × (tells (eventAt other log k) c ≡ true) × (kept ≡ stampAt k))
+      go : (kept ≡ 0) ⊎ ((k : ℕ) × Among (length log) k × (telling k ≡ true) × (kept ≡ stampAt k))
           → (kept ≡ 0) ⊎ Told log c t kept
       go (inl z) = inl z
       go (inr r) = inr (rw (r .3) (told-at (r .0) (r .1) (r .2)))
@@ -85,7 +88,7 @@ module _ (other : Event) (log : List Event) (c : Channel) (t : ℕ) where
   unfolding clock
   kept-unique n h =
       le-antisymm (go (h .reached))
-      (highest-le (λ k. tells (eventAt other log k) c) stampAt n (length log) (λ k u e. h .highest (stampAt k) (told-at k u e)))
+      (highest-le telling stampAt n (length log) (λ k u e. h .highest (stampAt k) (told-at k u e)))
     where
       go : (n ≡ 0) ⊎ Told log c t n → n ≤ kept
       go (inl z) = omega arith

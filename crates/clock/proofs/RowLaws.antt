@@ -1,4 +1,4 @@
--- The rows of an event lie within the clocks.
+-- The rows that an event hears and tells lie within the clocks.
 -- Assumes nothing.
 use Prim.Native.Nat.{ℕ, _+_, _≤_, _<_}
 use mathlib.Core.Path.{_≡_}
@@ -53,3 +53,8 @@ rows-fit e r h p =
     let k = all-known e h in
     let b = beside e in
     rw p (record { first = row-fits (b .first) (k .first); second = row-fits (b .second) (k .second); told = row-fits (b .told) (k .told) })
+
+-- rows that start at the same places
+pub same-rows : {a b c a′ b′ c′ : ℕ} → a ≡ a′ → b ≡ b′ → c ≡ c′
+    → _≡_ {A = Rows} (record { first = a; second = b; told = c }) (record { first = a′; second = b′; told = c′ })
+same-rows p q r = rw (p, q, r)

@@ -39,10 +39,11 @@ pub record Beside : Type 0 where
   pub second : Channel
   pub told : Channel
 
+-- one channel, heard and told
 abbrev pub one : Channel → Beside
 one c = record { first = c; second = c; told = c }
 
--- those of an event of thread t, by what it touches; its own thread again where there is none
+-- those of an event that acts as thread t, by what it touches; its own thread again where there is none
 abbrev pub besideOf : ℕ → Touch → Beside
 besideOf t (reads v) = record { first = writesOf v; second = writesOf v; told = readsOf v }
 besideOf t (writes v) = record { first = writesOf v; second = readsOf v; told = writesOf v }
@@ -50,6 +51,7 @@ besideOf t (locksIt l) = one (lockOf l)
 besideOf t (names c) = one (thread c)
 besideOf t nothing = one (thread t)
 
+-- those of an event
 abbrev pub beside : Event → Beside
 beside e = besideOf (e .thread) (touched e)
 

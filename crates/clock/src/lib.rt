@@ -11,7 +11,8 @@ ghost use Rattle.event.specs.Limits.{threads, events};
 ghost use Rattle.event.specs.Slots.{slotOf};
 ghost use Rattle.event.specs.Range.{rangeRefusal};
 ghost use Rattle.dependence.specs.Dependence.{touches};
-ghost use Rattle.clock.specs.Rows.{size, besideOf, rowsFor};
+ghost use Rattle.dependence.specs.Channels.{thread, readsOf, writesOf, lockOf};
+ghost use Rattle.clock.specs.Rows.{size, rowOf, besideOf, rowsFor};
 ghost use Rattle.clock.specs.Clocks.{up, tickedAt, heardFrom, toldTo, heard, stampBy, clocksAfter, comesBefore};
 ghost use Rattle.clock.specs.Holds.{Holds, Arrived};
 
@@ -23,10 +24,11 @@ const FIRST_READS: usize = THREADS;
 const FIRST_WRITES: usize = FIRST_READS + event::VARIABLES as usize;
 
 const FIRST_LOCK: usize = FIRST_WRITES + event::VARIABLES as usize;
-// The highest count that an entry holds.
-const HIGHEST: u16 = 65535;
 
 pub const CLOCKS: usize = (FIRST_LOCK + event::LOCKS as usize) * THREADS;
+
+// The highest count that an entry holds.
+const HIGHEST: u16 = 65535;
 
 // For each thread, how many of its events come before the stamped one or are it.
 pub struct Stamp {
@@ -58,23 +60,22 @@ pub fn advance(clocks: &mut [u16; CLOCKS], e: Event) -> Stamp
     if k != 0 {
         return Stamp { at: [0; THREADS] };
     }
-    let t = e.thread as usize;
+    let t = e.thread;
     let op = e.operation;
     let rows = rows_of(t, op);
     let s = listen(clocks, t, rows);
     tell(clocks, rows.told, s);
-    tell(clocks, t * THREADS, s);
+    tell(clocks, thread_row(t), s);
     s
 }
 
-fn rows_of(t: usize, op: Operation) -> Rows
-    requires { ⌜ t < threads ⌝ }
+fn rows_of(t: u8, op: Operation) -> Rows
     ensures { λ r. ⌜ r ≡ rowsFor (besideOf t (touches op)) ⌝ }
 {
     match op {
         Operation::Read { variable } => {
-            let reads = (FIRST_READS + variable as usize) * THREADS;
-            let writes = (FIRST_WRITES + variable as usize) * THREADS;
+            let reads = reads_row(variable);
+            let writes = writes_row(variable);
             Rows {
                 first: writes,
                 second: writes,
@@ -85,19 +86,19 @@ fn rows_of(t: usize, op: Operation) -> Rows
             variable,
             height: _,
         } => {
-            let reads = (FIRST_READS + variable as usize) * THREADS;
-            let writes = (FIRST_WRITES + variable as usize) * THREADS;
+            let reads = reads_row(variable);
+            let writes = writes_row(variable);
             Rows {
                 first: writes,
                 second: reads,
                 told: writes,
             }
         }
-        Operation::Acquire { lock } => one_row((FIRST_LOCK + lock as usize) * THREADS),
-        Operation::Release { lock } => one_row((FIRST_LOCK + lock as usize) * THREADS),
-        Operation::Fork { child } => one_row(child as usize * THREADS),
-        Operation::Join { child } => one_row(child as usize * THREADS),
-        Operation::Mark { mark: _ } => one_row(t * THREADS),
+        Operation::Acquire { lock } => one_row(lock_row(lock)),
+        Operation::Release { lock } => one_row(lock_row(lock)),
+        Operation::Fork { child } => one_row(thread_row(child)),
+        Operation::Join { child } => one_row(thread_row(child)),
+        Operation::Mark { mark: _ } => one_row(thread_row(t)),
     }
 }
 
@@ -111,18 +112,44 @@ fn one_row(row: usize) -> Rows
     }
 }
 
-// What an event of thread t hears, with one more of its own thread.
-fn listen(clocks: &[u16; CLOCKS], t: usize, rows: Rows) -> Stamp
+// Where the row of each channel starts.
+fn thread_row(t: u8) -> usize
+    ensures { λ r. ⌜ r ≡ rowOf (thread t) ⌝ }
+{
+    t as usize * THREADS
+}
+
+fn reads_row(variable: u8) -> usize
+    ensures { λ r. ⌜ r ≡ rowOf (readsOf variable) ⌝ }
+{
+    (FIRST_READS + variable as usize) * THREADS
+}
+
+fn writes_row(variable: u8) -> usize
+    ensures { λ r. ⌜ r ≡ rowOf (writesOf variable) ⌝ }
+{
+    (FIRST_WRITES + variable as usize) * THREADS
+}
+
+fn lock_row(lock: u8) -> usize
+    ensures { λ r. ⌜ r ≡ rowOf (lockOf lock) ⌝ }
+{
+    (FIRST_LOCK + lock as usize) * THREADS
+}
+
+// The highest counts in the own row of thread t and in two more, with one more of t.
+fn listen(clocks: &[u16; CLOCKS], t: u8, rows: Rows) -> Stamp
     requires { ⌜ (t < threads) × ((rows .first + threads ≤ size) × (rows .second + threads ≤ size)) ⌝ }
     ensures { λ r. ⌜ r ≡ heard (now (clocks .entry)) t rows ⌝ }
 {
     let none = Stamp { at: [0; THREADS] };
-    let own = hear(none, clocks, t * THREADS);
+    let own = hear(none, clocks, thread_row(t));
     let first = hear(own, clocks, rows.first);
     let both = hear(first, clocks, rows.second);
-    tick(both, t)
+    tick(both, t as usize)
 }
 
+// The stamp raised to the row.
 fn hear(s: Stamp, clocks: &[u16; CLOCKS], from: usize) -> Stamp
     requires { ⌜ from + threads ≤ size ⌝ }
     ensures { λ r. ⌜ r ≡ heardFrom s (now (clocks .entry)) from ⌝ }
@@ -135,6 +162,7 @@ fn hear(s: Stamp, clocks: &[u16; CLOCKS], from: usize) -> Stamp
     r
 }
 
+// Raises the row to the stamp.
 fn tell(clocks: &mut [u16; CLOCKS], to: usize, s: Stamp)
     requires { ⌜ to + threads ≤ size ⌝ }
     ensures { λ _. ⌜ now (clocks .exit) ≡ toldTo (now (clocks .entry)) to s ⌝ }
@@ -151,7 +179,7 @@ fn larger(x: u16, y: u16) -> u16
     if x < y { y } else { x }
 }
 
-// Goes through every entry, so that the row stays one vector.
+// One more of thread t. It goes through every entry, so that the counts stay in one vector.
 fn tick(s: Stamp, t: usize) -> Stamp
     requires { ⌜ t < threads ⌝ }
     ensures { λ r. ⌜ r ≡ tickedAt s t ⌝ }

@@ -19,6 +19,7 @@ use Rattle.clock.proofs.rows_of.Reads as rows-of-reads
 use Rattle.clock.proofs.tell.Reads as tell-reads
 use Rattle.event.proofs.range.Reads as range-reads
 use Rattle.event.proofs.slot_of.Reads as slot-of-reads
+use Rattle.clock.proofs.thread_row.Reads as thread-row-reads
 
 -- ---- what is known on the way
 
@@ -32,13 +33,13 @@ low : (c : tie.Else1) → c .before .before .before .args .e .thread < threads
 low c = in-range (slotOf (c .before .before .before .args .e)) (within c) .thread
 
 fit : (c : tie.After-rows-of) → Fit (c .rows-of .result)
-fit c = rows-fit (c .before .before .before .before .before .args .e) _ (within (c .before .before)) (c .rows-of .ensures)
+fit c = rows-fit (c .before .before .before .before .args .e) _ (within (c .before)) (c .rows-of .ensures)
 
 stamped : (c : tie.After-listen)
-    → c .listen .result ≡ stampBy (c .before .before .before .before .before .before .before .args .clocks .now) (c .before .before .before .before .before .before .before .args .e)
+    → c .listen .result ≡ stampBy (c .before .before .before .before .before .before .args .clocks .now) (c .before .before .before .before .before .before .args .e)
 stamped c =
-    let a = c .before .before .before .before .before .before .before .args in
-    stamp-made (a .clocks .now) (a .e) (within (c .before .before .before .before)) _ _ (c .before .before .rows-of .ensures) (c .listen .ensures)
+    let a = c .before .before .before .before .before .before .args in
+    stamp-made (a .clocks .now) (a .e) (within (c .before .before .before)) _ _ (c .before .before .rows-of .ensures) (c .listen .ensures)
 
 -- ---- the needs
 
@@ -54,32 +55,29 @@ returns c =
     let out : rangeRefusal (slotOf (a .e)) ≡ 0 → ⊥ = λ z. c .if1 .taken (number (c .before) ∙ z) in
     arrived (a .clocks .now) (a .e) _ _ (stamp-out (a .clocks .now) (a .e) out) (clocks-out (a .clocks .now) (a .e) out)
 
-cast-t : tie.Need-cast-t
-cast-t c = search needs
-
 rows-of-requires : tie.Need-rows-of-requires
-rows-of-requires c κs = low (c .before)
+rows-of-requires c κs = search needs
 
 listen-requires : tie.Need-listen-requires
-listen-requires c κs = let f = fit (c .before) in (low (c .before .before .before), (f .first, f .second))
+listen-requires c κs = let f = fit (c .before) in (low (c .before .before), (f .first, f .second))
 
 tell-requires : tie.Need-tell-requires
 tell-requires c κs = fit (c .before .before .before) .told
 
-mul-tell : tie.Need-mul-tell
-mul-tell c = search needs
+thread-row-requires : tie.Need-thread-row-requires
+thread-row-requires c κs = search needs
 
 tell-requires-2 : tie.Need-tell-requires-2
 tell-requires-2 c κs =
     let s = c .before .before .before .before .before .before .before in
-    row-fits (thread (s .before .before .before .args .e .thread)) (low s)
+    rw (c .thread-row .ensures) (row-fits (thread (s .before .before .before .args .e .thread)) (low s))
 
 returns-2 : tie.Need-returns-2
 returns-2 c =
-    let at = c .before .before .before .before in
-    let a = at .before .before .before .before .before .before .before .args in
-    arrived (a .clocks .now) (a .e) _ _ (stamped at)
-    (clocks-made (a .clocks .now) (a .e) (within (at .before .before .before .before)) _ _ _ _ (at .before .before .rows-of .ensures) (stamped at) (c .before .before .tell .ensures) (c .tell2 .ensures))
+    let l = c .before .before .before .before .before in
+    let a = l .before .before .before .before .before .before .args in
+    arrived (a .clocks .now) (a .e) _ _ (stamped l)
+    (clocks-made (a .clocks .now) (a .e) (within (l .before .before .before)) _ _ _ _ (l .before .before .rows-of .ensures) (stamped l) (c .before .before .before .tell .ensures) (rw (c .before .thread-row .ensures) at (c .tell2 .ensures)))
 
 pub advance-spec : {M : Type 1} → statement M
 advance-spec =
@@ -88,10 +86,9 @@ advance-spec =
     slot-of-requires
     range-requires
     returns
-    cast-t
     rows-of-requires
     listen-requires
     tell-requires
-    mul-tell
+    thread-row-requires
     tell-requires-2
     returns-2)
