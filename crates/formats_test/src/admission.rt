@@ -4,7 +4,7 @@ use crate::made;
 use crate::show;
 use event::Event;
 
-pub fn run() {
+pub(crate) fn run() {
     range_before_limit();
     limit_before_rules();
     locks();

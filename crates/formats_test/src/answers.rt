@@ -18,7 +18,7 @@ pub enum Reader {
     LogTrip,
 }
 
-pub fn print(reader: Reader, name: &[u8], bytes: &[u8]) {
+pub(crate) fn print(reader: Reader, name: &[u8], bytes: &[u8]) {
     match reader {
         Reader::Pattern => pattern(name, bytes),
         Reader::KeptSlots => kept_slots(name, bytes),

@@ -2,7 +2,7 @@
 use command::Written;
 
 // Whether two slices hold the same bytes.
-pub fn same(a: &[u8], b: &[u8]) -> bool {
+pub(crate) fn same(a: &[u8], b: &[u8]) -> bool {
     if a.len() != b.len() {
         return false;
     }
@@ -15,7 +15,7 @@ pub fn same(a: &[u8], b: &[u8]) -> bool {
 }
 
 // The next write place; after a refusal one that no buffer has.
-pub fn next_place(w: Written) -> usize {
+pub(crate) fn next_place(w: Written) -> usize {
     match w {
         Written::Next { at } => at,
         Written::Refused {

@@ -4,7 +4,7 @@ use crate::buffers;
 use crate::made;
 use crate::vectors;
 
-pub fn run() {
+pub(crate) fn run() {
     let mut log = [0u8; 262160];
     in_space(&mut log);
 }

@@ -2,7 +2,7 @@
 use crate::answers::Reader;
 use crate::vectors;
 
-pub fn run() {
+pub(crate) fn run() {
     joined_thread_acts();
     held_lock_acquired();
     release_without_holding();

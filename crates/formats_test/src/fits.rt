@@ -4,7 +4,7 @@ use crate::show;
 use event::Event;
 use event::Slot;
 
-pub fn run() {
+pub(crate) fn run() {
     same();
     another_thread_or_object();
     another_operation();

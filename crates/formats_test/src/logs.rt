@@ -2,7 +2,7 @@
 use crate::answers::Reader;
 use crate::vectors;
 
-pub fn run() {
+pub(crate) fn run() {
     closing();
     unknown_byte();
     cut_operand();

@@ -2,7 +2,7 @@
 use crate::answers::Reader;
 use crate::vectors;
 
-pub fn run() {
+pub(crate) fn run() {
     first_byte();
     fifth_slot();
     unknown_byte_and_cut_operand();

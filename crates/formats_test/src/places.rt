@@ -2,7 +2,7 @@
 use crate::answers::Reader;
 use crate::vectors;
 
-pub fn run() {
+pub(crate) fn run() {
     heights_and_marks();
     events();
     event_refusals();

@@ -9,7 +9,7 @@ use command::SlotRead;
 use event::Event;
 use event::Slot;
 
-pub fn run() {
+pub(crate) fn run() {
     logs();
     patterns();
     events();
@@ -17,7 +17,7 @@ pub fn run() {
     whole_example();
 }
 
-pub fn log(name: &[u8], bytes: &[u8]) {
+pub(crate) fn log(name: &[u8], bytes: &[u8]) {
     let mut copy = [0xEEu8; 64];
     let n = copy_log(bytes, &mut copy);
     show::text(b"round trip of a log, ");
@@ -25,7 +25,7 @@ pub fn log(name: &[u8], bytes: &[u8]) {
     compare(&copy, n, bytes);
 }
 
-pub fn pattern(name: &[u8], bytes: &[u8]) {
+pub(crate) fn pattern(name: &[u8], bytes: &[u8]) {
     let mut copy = [0xEEu8; 64];
     let n = copy_pattern(bytes, &mut copy);
     show::text(b"round trip of a pattern, ");

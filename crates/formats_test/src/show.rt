@@ -4,15 +4,15 @@ use event::Operation;
 use event::Slot;
 use event::SlotOperation;
 
-pub fn text(s: &[u8]) {
+pub(crate) fn text(s: &[u8]) {
     io::write_all(1, s);
 }
 
-pub fn number(n: u64) {
+pub(crate) fn number(n: u64) {
     io::print_decimal(1, n);
 }
 
-pub fn refusal(number: u8, offset: usize) {
+pub(crate) fn refusal(number: u8, offset: usize) {
     io::write_all(1, b"refused ");
     io::print_decimal(1, number as u64);
     io::write_all(1, b" at ");
@@ -31,7 +31,7 @@ fn byte(b: u8) {
 }
 
 // Each byte in hexadecimal, a space before it.
-pub fn bytes(s: &[u8]) {
+pub(crate) fn bytes(s: &[u8]) {
     for i in 0..s.len() {
         byte(s[i]);
     }
@@ -77,7 +77,7 @@ fn operation_of_event(op: Operation) {
     }
 }
 
-pub fn event(e: Event) {
+pub(crate) fn event(e: Event) {
     thread(e.thread);
     let op = e.operation;
     operation_of_event(op);
@@ -95,7 +95,7 @@ fn operation_of_slot(op: SlotOperation) {
     }
 }
 
-pub fn slot(s: Slot) {
+pub(crate) fn slot(s: Slot) {
     thread(s.thread);
     let op = s.operation;
     operation_of_slot(op);

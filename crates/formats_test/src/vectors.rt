@@ -6,13 +6,13 @@ ghost use lib.ListN.{length};
 ghost use Rattle.io.specs.Counts.{Counts};
 
 // Hands each vector to the reader.
-pub fn read(reader: Reader, lines: &[u8]) {
+pub(crate) fn read(reader: Reader, lines: &[u8]) {
     let mut space = [0u8; 64];
     read_after(reader, lines, &mut space, 0);
 }
 
 // Hands each vector to the reader as what follows the first `from` bytes of `space`.
-pub fn read_after(reader: Reader, lines: &[u8], space: &mut [u8], from: usize) {
+pub(crate) fn read_after(reader: Reader, lines: &[u8], space: &mut [u8], from: usize) {
     let mut at: usize = 0;
     while at < lines.len() {
         let colon = find(lines, at, b':');

@@ -7,7 +7,7 @@ use event::Event;
 use event::Slot;
 ghost use Prim.Native.Nat.{_≤_};
 
-pub fn run() {
+pub(crate) fn run() {
     every_event();
     heights();
     every_slot();
