@@ -1,0 +1,50 @@
+-- `order_test::plain::holds` is safe and ends. The loop counts to eight; what falls is the number of places left.
+use Prim.Native.Nat.{_-_, _≤_}
+use borrow.Author.Needs.{needs}
+use Rattle.order_test.proofs.plain.holds.Statement.{statement}
+use Rattle.order_test.proofs.plain.holds.Tie as tie
+
+abbrev Inv-loop : tie.InvT-loop
+Inv-loop kind l n₀ n = n ≤ 8
+
+abbrev μ-loop : tie.MeasureT-loop
+μ-loop kind l n₀ n = 8 - n
+
+loop-holds : tie.Need-loop-holds Inv-loop μ-loop
+loop-holds c = search needs
+
+mul-if2 : tie.Need-mul-if2 Inv-loop μ-loop
+mul-if2 c = search needs
+
+element-copy-out-if2 : tie.Need-element-copy-out-if2 Inv-loop μ-loop
+element-copy-out-if2 c = search needs
+
+returns : tie.Need-returns Inv-loop μ-loop
+returns c = search needs
+
+add-n : tie.Need-add-n Inv-loop μ-loop
+add-n c = search needs
+
+loop-less : tie.Need-loop-less Inv-loop μ-loop
+loop-less c = search needs
+
+loop-again : tie.Need-loop-again Inv-loop μ-loop
+loop-again c = search needs
+
+returns-2 : tie.Need-returns-2 Inv-loop μ-loop
+returns-2 c = search needs
+
+pub holds-spec : {M : Type 1} → statement M
+holds-spec =
+    tie.close
+    (tie.spec
+    Inv-loop
+    μ-loop
+    loop-holds
+    mul-if2
+    element-copy-out-if2
+    returns
+    add-n
+    loop-less
+    loop-again
+    returns-2)

@@ -1,0 +1,66 @@
+-- `order_test::plain::read` is safe and ends. The loop counts to eight; what falls is the number of places left.
+use Prim.Native.Nat.{_-_, _≤_}
+use borrow.Author.Needs.{needs}
+use Rattle.order_test.proofs.plain.read.Statement.{statement}
+use Rattle.order_test.proofs.plain.read.Tie as tie
+
+abbrev Inv-loop : tie.InvT-loop
+Inv-loop log events₀ at₀ n₀ events at n = n ≤ 8
+
+abbrev μ-loop : tie.MeasureT-loop
+μ-loop log events₀ at₀ n₀ events at n = 8 - n
+
+made-requires : tie.Need-made-requires Inv-loop μ-loop
+made-requires c κs = search needs
+
+loop-holds : tie.Need-loop-holds Inv-loop μ-loop
+loop-holds c = search needs
+
+read-event-requires : tie.Need-read-event-requires Inv-loop μ-loop
+read-event-requires c κs = search needs
+
+enum-known-step : tie.Need-enum-known-step Inv-loop μ-loop
+enum-known-step c = search needs
+
+returns : tie.Need-returns Inv-loop μ-loop
+returns c = search needs
+
+in-numbers-requires : tie.Need-in-numbers-requires Inv-loop μ-loop
+in-numbers-requires c κs = search needs
+
+mul-events : tie.Need-mul-events Inv-loop μ-loop
+mul-events c = search needs
+
+array-set-from-events : tie.Need-array-set-from-events Inv-loop μ-loop
+array-set-from-events c = search needs
+
+add-n : tie.Need-add-n Inv-loop μ-loop
+add-n c = search needs
+
+loop-less : tie.Need-loop-less Inv-loop μ-loop
+loop-less c = search needs
+
+loop-again : tie.Need-loop-again Inv-loop μ-loop
+loop-again c = search needs
+
+returns-2 : tie.Need-returns-2 Inv-loop μ-loop
+returns-2 c = search needs
+
+pub read-spec : {M : Type 1} → statement M
+read-spec =
+    tie.close
+    (tie.spec
+    Inv-loop
+    μ-loop
+    made-requires
+    loop-holds
+    read-event-requires
+    enum-known-step
+    returns
+    in-numbers-requires
+    mul-events
+    array-set-from-events
+    add-n
+    loop-less
+    loop-again
+    returns-2)

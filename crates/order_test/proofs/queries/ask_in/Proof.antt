@@ -1,0 +1,100 @@
+-- `order_test::queries::ask_in` is safe and ends. The loop keeps the length of the space; what falls is the number of bytes left of the lines.
+use Prim.Native.Nat.{_-_}
+use mathlib.Core.Path.{_≡_}
+use lib.ListN.{length}
+use borrow.Author.Needs.{needs}
+use Rattle.order_test.proofs.queries.ask_in.Statement.{statement}
+use Rattle.order_test.proofs.queries.ask_in.Tie as tie
+
+abbrev Inv-loop : tie.InvT-loop
+Inv-loop lines space₀ at₀ space at = length space ≡ length space₀
+
+abbrev μ-loop : tie.MeasureT-loop
+μ-loop lines space₀ at₀ space at = length lines - at
+
+loop-holds : tie.Need-loop-holds Inv-loop μ-loop
+loop-holds c = search needs
+
+find-requires : tie.Need-find-requires Inv-loop μ-loop
+find-requires c κs = search needs
+
+find-requires-2 : tie.Need-find-requires-2 Inv-loop μ-loop
+find-requires-2 c κs = search needs
+
+sub-put-bytes : tie.Need-sub-put-bytes Inv-loop μ-loop
+sub-put-bytes c = search needs
+
+part-put-bytes-start : tie.Need-part-put-bytes-start Inv-loop μ-loop
+part-put-bytes-start c = search needs
+
+part-put-bytes-end : tie.Need-part-put-bytes-end Inv-loop μ-loop
+part-put-bytes-end c = search needs
+
+put-bytes-requires : tie.Need-put-bytes-requires Inv-loop μ-loop
+put-bytes-requires c κs = search needs
+
+sub-name : tie.Need-sub-name Inv-loop μ-loop
+sub-name c = search needs
+
+part-name-start : tie.Need-part-name-start Inv-loop μ-loop
+part-name-start c = search needs
+
+part-name-end : tie.Need-part-name-end Inv-loop μ-loop
+part-name-end c = search needs
+
+slice-reshare-prefix-ask : tie.Need-slice-reshare-prefix-ask Inv-loop μ-loop
+slice-reshare-prefix-ask c = search needs
+
+slice-aggregate-ask : tie.Need-slice-aggregate-ask Inv-loop μ-loop
+slice-aggregate-ask c = search needs
+
+number-at-requires : tie.Need-number-at-requires Inv-loop μ-loop
+number-at-requires c κs = search needs
+
+number-at-requires-2 : tie.Need-number-at-requires-2 Inv-loop μ-loop
+number-at-requires-2 c κs = search needs
+
+ask-requires : tie.Need-ask-requires Inv-loop μ-loop
+ask-requires c κs = search needs
+
+add-at : tie.Need-add-at Inv-loop μ-loop
+add-at c = search needs
+
+loop-less : tie.Need-loop-less Inv-loop μ-loop
+loop-less c = search needs
+
+loop-again : tie.Need-loop-again Inv-loop μ-loop
+loop-again c = search needs
+
+same-length : tie.Need-same-length Inv-loop μ-loop
+same-length c = search needs
+
+returns : tie.Need-returns Inv-loop μ-loop
+returns c = search needs
+
+pub ask-in-spec : {M : Type 1} → statement M
+ask-in-spec =
+    tie.close
+    (tie.spec
+    Inv-loop
+    μ-loop
+    loop-holds
+    find-requires
+    find-requires-2
+    sub-put-bytes
+    part-put-bytes-start
+    part-put-bytes-end
+    put-bytes-requires
+    sub-name
+    part-name-start
+    part-name-end
+    slice-reshare-prefix-ask
+    slice-aggregate-ask
+    number-at-requires
+    number-at-requires-2
+    ask-requires
+    add-at
+    loop-less
+    loop-again
+    same-length
+    returns)

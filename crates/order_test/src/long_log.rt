@@ -1,0 +1,85 @@
+// Queries on a log of 65,535 events, the most a log may have, and on one that has an event more.
+use crate::queries;
+use command::Written;
+use event::Event;
+use event::Operation;
+
+pub(crate) fn run() {
+    let mut space = [0u8; 262145];
+    in_space(&mut space);
+}
+
+fn in_space(space: &mut [u8]) {
+    let full = marks(space, 65535);
+    command::write_end(space, full);
+    most_events(space, full);
+    let over = marks(space, 65536);
+    command::write_end(space, over);
+    ask(b"65,536 marks, 1 before 2", space, over, 1, 2);
+}
+
+fn most_events(space: &[u8], end: usize) {
+    ask(b"65,535 marks, 1 before 65535", space, end, 1, 65535);
+    ask(b"65,535 marks, 65535 before 1", space, end, 65535, 1);
+    ask(
+        b"65,535 marks, 65534 before 65535",
+        space,
+        end,
+        65534,
+        65535,
+    );
+    ask(
+        b"65,535 marks, 65535 before 65534",
+        space,
+        end,
+        65535,
+        65534,
+    );
+    ask(
+        b"65,535 marks, 65535 before 65535",
+        space,
+        end,
+        65535,
+        65535,
+    );
+    ask(
+        b"65,535 marks, 65535 before 65536",
+        space,
+        end,
+        65535,
+        65536,
+    );
+}
+
+// Asks of the log whose closing 00 stands at `end`.
+fn ask(name: &[u8], space: &[u8], end: usize, first: usize, second: usize) {
+    if space.len() <= end {
+        return;
+    }
+    let size = end + 1;
+    queries::ask(name, &space[..size], first, second);
+}
+
+// Writes `count` marks of thread 0, and answers the place after them.
+fn marks(space: &mut [u8], count: usize) -> usize {
+    let mark = Event {
+        thread: 0,
+        operation: Operation::Mark { mark: 5 },
+    };
+    let mut at: usize = 0;
+    for n in 0..count {
+        at = place_after(command::write_event(space, at, mark), at);
+    }
+    at
+}
+
+// The next write place; the old one after a refusal.
+pub(crate) fn place_after(w: Written, at: usize) -> usize {
+    match w {
+        Written::Next { at: next } => next,
+        Written::Refused {
+            number: _,
+            offset: _,
+        } => at,
+    }
+}
