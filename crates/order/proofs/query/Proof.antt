@@ -47,22 +47,43 @@ answer-requires : tie.Need-answer-requires Inv-loop μ-loop
 answer-requires c κs = search needs
 
 returns : tie.Need-returns Inv-loop μ-loop
-returns c = let r = at-end (c .before .before .before .before .before .before .before .before .args .log .now) (c .before .before .before .before .loop .state) (c .before .before .before .before .loop .taken) (c .before .before .before .before .loop .at) (c .before .before .before .before .loop .inv .0) (c .before .before .before .before .loop .inv .1) (sym (c .before .before .before .decode .ensures) ∙ the-end (c .before .before .before .decode .result) (c .before .before .match .keys2) (c .before .match2 .keys2)) in
+returns c =
+    let args = c .before .before .before .before .before .before .before .before .args in
+    let bytes = args .log .now in
+    let l = c .before .before .before .before .loop in
+    let q = sym (c .before .before .before .decode .ensures) ∙ the-end (c .before .before .before .decode .result) (c .before .before .match .keys2) (c .before .match2 .keys2) in
     rw (c .answer .ensures)
-    (answers (c .before .before .before .before .before .before .before .before .args .log .now) (reverse (c .before .before .before .before .loop .inv .0)) (c .before .before .before .before .before .before .before .before .args .first) (c .before .before .before .before .before .before .before .before .args .second) (c .before .before .before .before .loop .watch) (c .before .before .before .before .loop .inv .3) r
-    (c .before .before .before .before .loop .taken) (c .before .before .before .before .loop .inv .1 .count ∙ sym (length-reverse (c .before .before .before .before .loop .inv .0))))
+    (answers bytes (reverse (l .inv .0)) (args .first) (args .second) (l .watch) (l .inv .3)
+    (at-end bytes (l .state) (l .taken) (l .at) (l .inv .0) (l .inv .1) q) (l .taken) (l .inv .1 .count ∙ sym (length-reverse (l .inv .0))))
 
 returns-2 : tie.Need-returns-2 Inv-loop μ-loop
-returns-2 c = refused-log (sym (broken (c .before .before .before .before .before .before .before .before .before .args .log .now) (c .before .before .before .before .before .loop .state) (c .before .before .before .before .before .loop .taken) (c .before .before .before .before .before .loop .at) (c .before .before .before .before .before .loop .inv .0) (c .before .before .before .before .before .loop .inv .1) (c .before .step2 .given .0 .0) (c .before .step2 .given .0 .1 .0) (sym (c .before .before .before .before .decode .ensures) ∙ ap decodedIs (c .before .step2 .given .1))))
+returns-2 c =
+    let bytes = c .before .before .before .before .before .before .before .before .before .args .log .now in
+    let l = c .before .before .before .before .before .loop in
+    let s = c .before .step2 .given in
+    let q = sym (c .before .before .before .before .decode .ensures) ∙ ap decodedIs (s .1) in
+    refused-log (sym (broken bytes (l .state) (l .taken) (l .at) (l .inv .0) (l .inv .1) (s .0 .0) (s .0 .1 .0) q))
 
 admit-requires : tie.Need-admit-requires Inv-loop μ-loop
 admit-requires c κs = search needs
 
 returns-3 : tie.Need-returns-3 Inv-loop μ-loop
-returns-3 c = refused-log (sym (turned-away (c .before .before .before .before .before .before .before .before .before .before .before .args .log .now) (c .before .before .before .before .before .before .before .loop .state) (c .before .before .before .before .before .before .before .loop .taken) (c .before .before .before .before .before .before .before .loop .at) (c .before .before .before .before .before .before .before .loop .inv .0) (c .before .before .before .before .before .before .before .loop .inv .1) (c .before .before .before .before .step .given .0 .0) (c .before .before .before .before .step .given .0 .1 .0) (sym (c .before .before .before .before .before .before .decode .ensures) ∙ ap decodedIs (c .before .before .before .before .step .given .1)) _ ((c .before .admit .ensures .1 .1 (c .before .before .before .before .before .before .before .loop .inv .0) (c .before .before .before .before .before .before .before .loop .inv .1 .holds) (c .before .before .before .before .before .before .before .loop .inv .1 .count)) .0) (c .if1 .taken)))
+returns-3 c =
+    let bytes = c .before .before .before .before .before .before .before .before .before .before .before .args .log .now in
+    let l = c .before .before .before .before .before .before .before .loop in
+    let s = c .before .before .before .before .step .given in
+    let q = sym (c .before .before .before .before .before .before .decode .ensures) ∙ ap decodedIs (s .1) in
+    let h = c .before .admit .ensures .1 .1 (l .inv .0) (l .inv .1 .holds) (l .inv .1 .count) in
+    refused-log (sym (turned-away bytes (l .state) (l .taken) (l .at) (l .inv .0) (l .inv .1) (s .0 .0) (s .0 .1 .0) q _ (h .0) (c .if1 .taken)))
 
 add-taken : tie.Need-add-taken Inv-loop μ-loop
-add-taken c = let r : c .before .before .before .before .before .before .before .loop .taken < events = room (c .before .before .before .before .before .before .before .before .before .before .before .args .log .now) (c .before .before .before .before .before .before .before .loop .state) (c .before .before .before .before .before .before .before .loop .taken) (c .before .before .before .before .before .before .before .loop .at) (c .before .before .before .before .before .before .before .loop .inv .0) (c .before .before .before .before .before .before .before .loop .inv .1) (c .before .before .before .before .step .given .0 .0) (c .before .before .before .before .step .given .0 .1 .0) (sym (c .before .before .before .before .before .before .decode .ensures) ∙ ap decodedIs (c .before .before .before .before .step .given .1)) (sym ((c .before .admit .ensures .1 .1 (c .before .before .before .before .before .before .before .loop .inv .0) (c .before .before .before .before .before .before .before .loop .inv .1 .holds) (c .before .before .before .before .before .before .before .loop .inv .1 .count)) .0) ∙ c .if1 .left) in omega arith
+add-taken c =
+    let bytes = c .before .before .before .before .before .before .before .before .before .before .before .args .log .now in
+    let l = c .before .before .before .before .before .before .before .loop in
+    let s = c .before .before .before .before .step .given in
+    let q = sym (c .before .before .before .before .before .before .decode .ensures) ∙ ap decodedIs (s .1) in
+    let h = c .before .admit .ensures .1 .1 (l .inv .0) (l .inv .1 .holds) (l .inv .1 .count) in
+    let r : l .taken < events = room bytes (l .state) (l .taken) (l .at) (l .inv .0) (l .inv .1) (s .0 .0) (s .0 .1 .0) q (sym (h .0) ∙ c .if1 .left) in omega arith
 
 advance-requires : tie.Need-advance-requires Inv-loop μ-loop
 advance-requires c κs = search needs
@@ -71,19 +92,31 @@ see-requires : tie.Need-see-requires Inv-loop μ-loop
 see-requires c κs = search needs
 
 loop-less : tie.Need-loop-less Inv-loop μ-loop
-loop-less c = shorter (c .before .before .before .before .before .before .before .before .before .before .before .before .before .before .args .log .now) (c .before .before .before .before .before .before .before .before .before .before .loop .state) (c .before .before .before .before .before .before .before .before .before .before .loop .taken) (c .before .before .before .before .before .before .before .before .before .before .loop .at) (c .before .before .before .before .before .before .before .before .before .before .loop .inv .0) (c .before .before .before .before .before .before .before .before .before .before .loop .inv .1) (c .before .before .before .before .before .before .before .step .given .0 .0) (c .before .before .before .before .before .before .before .step .given .0 .1 .0) (sym (c .before .before .before .before .before .before .before .before .before .decode .ensures) ∙ ap decodedIs (c .before .before .before .before .before .before .before .step .given .1)) (sym ((c .before .before .before .before .admit .ensures .1 .1 (c .before .before .before .before .before .before .before .before .before .before .loop .inv .0) (c .before .before .before .before .before .before .before .before .before .before .loop .inv .1 .holds) (c .before .before .before .before .before .before .before .before .before .before .loop .inv .1 .count)) .0) ∙ c .before .before .before .if1 .left)
+loop-less c =
+    let bytes = c .before .before .before .before .before .before .before .before .before .before .before .before .before .before .args .log .now in
+    let l = c .before .before .before .before .before .before .before .before .before .before .loop in
+    let s = c .before .before .before .before .before .before .before .step .given in
+    let q = sym (c .before .before .before .before .before .before .before .before .before .decode .ensures) ∙ ap decodedIs (s .1) in
+    let h = c .before .before .before .before .admit .ensures .1 .1 (l .inv .0) (l .inv .1 .holds) (l .inv .1 .count) in
+    shorter bytes (l .state) (l .taken) (l .at) (l .inv .0) (l .inv .1) (s .0 .0) (s .0 .1 .0) q (sym (h .0) ∙ c .before .before .before .if1 .left)
 
 loop-again : tie.Need-loop-again Inv-loop μ-loop
-loop-again c = let e = c .before .before .before .before .before .before .before .step .given .0 .0 in
-    let past = c .before .before .before .before .before .before .before .before .before .before .loop .inv .0 in
-    let z = (sym ((c .before .before .before .before .admit .ensures .1 .1 (c .before .before .before .before .before .before .before .before .before .before .loop .inv .0) (c .before .before .before .before .before .before .before .before .before .before .loop .inv .1 .holds) (c .before .before .before .before .before .before .before .before .before .before .loop .inv .1 .count)) .0) ∙ c .before .before .before .if1 .left) in
+loop-again c =
+    let bytes = c .before .before .before .before .before .before .before .before .before .before .before .before .before .before .args .log .now in
+    let l = c .before .before .before .before .before .before .before .before .before .before .loop in
+    let s = c .before .before .before .before .before .before .before .step .given in
+    let q = sym (c .before .before .before .before .before .before .before .before .before .decode .ensures) ∙ ap decodedIs (s .1) in
+    let h = c .before .before .before .before .admit .ensures .1 .1 (l .inv .0) (l .inv .1 .holds) (l .inv .1 .count) in
+    let args = c .before .before .before .before .before .before .before .before .before .before .before .before .before .before .args in
+    let e = s .0 .0 in
+    let past = l .inv .0 in
+    let z = sym (h .0) ∙ c .before .before .before .if1 .left in
     let k = clear past e z .range in
-    let r : c .before .before .before .before .before .before .before .before .before .before .loop .taken < events = room (c .before .before .before .before .before .before .before .before .before .before .before .before .before .before .args .log .now) (c .before .before .before .before .before .before .before .before .before .before .loop .state) (c .before .before .before .before .before .before .before .before .before .before .loop .taken) (c .before .before .before .before .before .before .before .before .before .before .loop .at) (c .before .before .before .before .before .before .before .before .before .before .loop .inv .0) (c .before .before .before .before .before .before .before .before .before .before .loop .inv .1) (c .before .before .before .before .before .before .before .step .given .0 .0) (c .before .before .before .before .before .before .before .step .given .0 .1 .0) (sym (c .before .before .before .before .before .before .before .before .before .decode .ensures) ∙ ap decodedIs (c .before .before .before .before .before .before .before .step .given .1)) z in
-    let n : c .before .before .before .before .before .before .before .before .before .before .loop .taken ≡ length (reverse past) = c .before .before .before .before .before .before .before .before .before .before .loop .inv .1 .count ∙ sym (length-reverse past) in
-    let u = next past (c .before .before .before .before .before .before .before .before .before .before .before .before .before .before .args .first) (c .before .before .before .before .before .before .before .before .before .before .before .before .before .before .args .second) (c .before .before .before .before .before .before .before .before .before .before .loop .taken) (c .before .before .before .before .before .before .before .before .before .before .loop .watch) e (c .before .advance .result) (c .before .advance .last .0)
-    (c .before .before .before .before .before .before .before .before .before .before .loop .inv .1 .count) (k .thread) (c .before .before .before .before .before .before .before .before .before .before .loop .inv .3)
-    (c .before .advance .ensures .1 .1 (reverse past) (c .before .before .before .before .before .before .before .before .before .before .loop .inv .2) (omega arith) (from-range (slotOf e) k)) in
-    (e ∷ past, one-more (c .before .before .before .before .before .before .before .before .before .before .before .before .before .before .args .log .now) (c .before .before .before .before .before .before .before .before .before .before .loop .state) (c .before .before .before .before .before .before .before .before .before .before .loop .taken) (c .before .before .before .before .before .before .before .before .before .before .loop .at) (c .before .before .before .before .before .before .before .before .before .before .loop .inv .0) (c .before .before .before .before .before .before .before .before .before .before .loop .inv .1) (c .before .before .before .before .before .before .before .step .given .0 .0) (c .before .before .before .before .before .before .before .step .given .0 .1 .0) (sym (c .before .before .before .before .before .before .before .before .before .decode .ensures) ∙ ap decodedIs (c .before .before .before .before .before .before .before .step .given .1)) z (c .before .before .before .before .admit .last .0) ((c .before .before .before .before .admit .ensures .1 .1 (c .before .before .before .before .before .before .before .before .before .before .loop .inv .0) (c .before .before .before .before .before .before .before .before .before .before .loop .inv .1 .holds) (c .before .before .before .before .before .before .before .before .before .before .loop .inv .1 .count)) .1), u .0, rw (c .see .ensures) (u .1))
+    let r : l .taken < events = room bytes (l .state) (l .taken) (l .at) (l .inv .0) (l .inv .1) (s .0 .0) (s .0 .1 .0) q z in
+    let n : l .taken ≡ length (reverse past) = l .inv .1 .count ∙ sym (length-reverse past) in
+    let arrived = c .before .advance .ensures .1 .1 (reverse past) (l .inv .2) (omega arith) (from-range (slotOf e) k) in
+    let u = next past (args .first) (args .second) (l .taken) (l .watch) e _ _ (l .inv .1 .count) (k .thread) (l .inv .3) arrived in
+    (e ∷ past, one-more bytes (l .state) (l .taken) (l .at) (l .inv .0) (l .inv .1) (s .0 .0) (s .0 .1 .0) q z (c .before .before .before .before .admit .last .0) (h .1), u .0, rw (c .see .ensures) (u .1))
 
 pub query-spec : {M : Type 1} → statement M
 query-spec =
