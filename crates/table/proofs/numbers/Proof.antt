@@ -1,0 +1,102 @@
+use Prim.Native.Nat.{ℕ, _+_, _-_, _≤_}
+use native.Mathlib.Omega.{arith}
+use native.Mathlib.Numerals.{add-one}
+use native.Mathlib.Nat.{zero-add}
+use mathlib.Core.Path.{_≡_, refl, sym, _∙_}
+use Rattle.event.specs.Limits.{slots as slotLimit}
+use Rattle.table.specs.Sets.{lanes, width, size as tableSize}
+use Rattle.table.specs.Table.{put, foundIn, numbersIn}
+use Rattle.table.proofs.SetLaws.{found-small}
+use borrow.Author.Tests.{not-true, not-false}
+use mathlib.Core.Bool.{true}
+use mathlib.Core.List.{List}
+use lib.ListN.{length}
+use Rattle.event.specs.declared.Slot.{Slot}
+use Rattle.event.specs.declared.Event.{Event}
+use Rattle.table.specs.Keeps.{Keeps, Numbers}
+use Rattle.table.proofs.Verdict.{found-numbers}
+use borrow.Author.Needs.{needs}
+use Rattle.table.proofs.numbers.Statement.{statement}
+use Rattle.table.proofs.numbers.Tie as tie
+
+-- the history follows from the exact clause
+both : (n : ℕ) (table r : List ℕ) → r ≡ numbersIn table n
+    → (r ≡ numbersIn table n) × ((ss : List Slot) (log : List Event) → Keeps ss log table → n ≡ length ss → Numbers ss log r)
+both n table r p = (p, λ ss log h q. rw (p, q) (found-numbers ss log table h))
+
+abbrev Inv-loop : tie.InvT-loop
+Inv-loop table size last r₀ j₀ r j = (j ≤ size) × (size ≤ slotLimit) × (last + width ≤ tableSize) × (r ≡ put j r₀ 0 table (last + lanes))
+
+abbrev μ-loop : tie.MeasureT-loop
+μ-loop table size last r₀ j₀ r j = size - j
+
+-- past the test there is a row
+found-is : (c : tie.Else1 Inv-loop μ-loop) → foundIn (c .before .before .args .table .now) (c .before .before .args .size) ≡ true
+found-is c = sym (c .before .found .ensures .0) ∙ not-false _ (c .if1 .left)
+
+found-requires : tie.Need-found-requires Inv-loop μ-loop
+found-requires c κs = search needs
+
+returns : tie.Need-returns Inv-loop μ-loop
+unfolding numbersIn
+returns c = both _ _ _ (rw (sym (c .before .found .ensures .0) ∙ not-true _ (c .if1 .taken)))
+
+last-row-requires : tie.Need-last-row-requires Inv-loop μ-loop
+last-row-requires c κs = found-small _ _ (found-is c)
+
+loop-holds : tie.Need-loop-holds Inv-loop μ-loop
+unfolding put
+loop-holds c = (search needs, found-small _ _ (found-is (c .before)), c .last-row .ensures .1, refl)
+
+add-r : tie.Need-add-r Inv-loop μ-loop
+add-r c = search needs
+
+add-r-2 : tie.Need-add-r-2 Inv-loop μ-loop
+add-r-2 c = search needs
+
+mul-r : tie.Need-mul-r Inv-loop μ-loop
+mul-r c = search needs
+
+element-copy-out-r : tie.Need-element-copy-out-r Inv-loop μ-loop
+element-copy-out-r c = search needs
+
+mul-r-2 : tie.Need-mul-r-2 Inv-loop μ-loop
+mul-r-2 c = search needs
+
+array-write-r : tie.Need-array-write-r Inv-loop μ-loop
+array-write-r c = search needs
+
+add-j : tie.Need-add-j Inv-loop μ-loop
+add-j c = search needs
+
+loop-less : tie.Need-loop-less Inv-loop μ-loop
+loop-less c = search needs
+
+loop-again : tie.Need-loop-again Inv-loop μ-loop
+unfolding put
+loop-again c = (search needs, search needs, search needs, rw (add-one, zero-add, c .before .before .loop .inv .3))
+
+returns-2 : tie.Need-returns-2 Inv-loop μ-loop
+unfolding numbersIn
+returns-2 c = let k : c .before .loop .j ≡ c .before .before .before .before .before .args .size = omega arith in both _ _ _ (rw (found-is (c .before .before .before)) (rw (k, c .before .before .last-row .ensures .0) at (c .before .loop .inv .3)))
+
+pub numbers-spec : {M : Type 1} → statement M
+numbers-spec =
+    tie.close
+    (tie.spec
+    Inv-loop
+    μ-loop
+    found-requires
+    returns
+    last-row-requires
+    loop-holds
+    add-r
+    add-r-2
+    mul-r
+    element-copy-out-r
+    mul-r-2
+    array-write-r
+    add-j
+    loop-less
+    loop-again
+    returns-2)

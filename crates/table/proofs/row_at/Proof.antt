@@ -1,0 +1,67 @@
+use Prim.Native.Nat.{ℕ, _-_, _≤_}
+use native.Mathlib.Omega.{arith}
+use native.Mathlib.Numerals.{add-one}
+use native.Mathlib.Nat.{zero-add}
+use mathlib.Core.Path.{_≡_, refl, ap}
+use mathlib.Core.List.{List}
+use Rattle.table.specs.Sets.{width}
+use Rattle.table.specs.Table.{put, rowAt}
+use borrow.Author.Needs.{needs}
+use Rattle.table.proofs.row_at.Statement.{statement}
+use Rattle.table.proofs.row_at.Tie as tie
+
+abbrev Inv-loop : tie.InvT-loop
+Inv-loop table from r₀ j₀ r j = (j ≤ width) × (r .at ≡ put j (r₀ .at) 0 table from)
+
+abbrev μ-loop : tie.MeasureT-loop
+μ-loop table from r₀ j₀ r j = width - j
+
+loop-holds : tie.Need-loop-holds Inv-loop μ-loop
+unfolding put
+loop-holds c = (search needs, refl)
+
+add-r : tie.Need-add-r Inv-loop μ-loop
+add-r c = search needs
+
+mul-r : tie.Need-mul-r Inv-loop μ-loop
+mul-r c = search needs
+
+element-copy-out-r : tie.Need-element-copy-out-r Inv-loop μ-loop
+element-copy-out-r c = search needs
+
+mul-r-2 : tie.Need-mul-r-2 Inv-loop μ-loop
+mul-r-2 c = search needs
+
+element-write-r : tie.Need-element-write-r Inv-loop μ-loop
+element-write-r c = search needs
+
+add-j : tie.Need-add-j Inv-loop μ-loop
+add-j c = search needs
+
+loop-less : tie.Need-loop-less Inv-loop μ-loop
+loop-less c = search needs
+
+loop-again : tie.Need-loop-again Inv-loop μ-loop
+unfolding put
+loop-again c = (search needs, rw (add-one, zero-add, c .before .before .loop .inv .1))
+
+returns : tie.Need-returns Inv-loop μ-loop
+unfolding rowAt
+returns c = let k : c .before .loop .j ≡ width = omega arith in ap (λ (xs : List ℕ). record { at = xs }) (rw k at (c .before .loop .inv .1))
+
+pub row-at-spec : {M : Type 1} → statement M
+row-at-spec =
+    tie.close
+    (tie.spec
+    Inv-loop
+    μ-loop
+    loop-holds
+    add-r
+    mul-r
+    element-copy-out-r
+    mul-r-2
+    element-write-r
+    add-j
+    loop-less
+    loop-again
+    returns)

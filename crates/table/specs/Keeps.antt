@@ -1,0 +1,91 @@
+-- What the table keeps of the events that arrived: for every set of a pattern's slots the greatest good tuple, or that there is none.
+-- Assumes nothing.
+use Prim.Native.Nat.{ℕ, zero, suc, _+_, _*_, _-_, _≤_, _<_}
+use mathlib.Core.Path.{_≡_}
+use mathlib.Core.Bool.{Bool, true, false, cond}
+use mathlib.Core.List.{List, [], _∷_, _++_}
+use mathlib.Core.Option.{Option, some, none}
+use lib.ListN.{length, getD, take, replicate}
+use Rattle.event.specs.declared.Event.{Event}
+use Rattle.event.specs.declared.Operation.the-variants.{Mark}
+use Rattle.event.specs.declared.Slot.{Slot}
+use Rattle.event.specs.declared.SlotOperation.the-variants.{Mark as MarkSlot}
+use Rattle.event.specs.Limits.{threads, slots, events}
+use Rattle.event.specs.Slots.{fits}
+use Rattle.trace.specs.Before.{Numbered}
+use Rattle.trace.proofs.Greatest.{BestOf}
+use Rattle.trace.proofs.Masks.{pick}
+use Rattle.trace.proofs.Stamps.{place, threadAt}
+use Rattle.dependence.specs.Dependence.{dependent}
+use Rattle.dependence.specs.Order.{threadOf, HasMatch, Named}
+use Rattle.clock.specs.declared.Stamp.{Stamp}
+use Rattle.clock.specs.Holds.{StampOf}
+use Rattle.table.specs.Sets.{lanes, held, size, rowOf, absent}
+
+-- what stands for the event of a number that the list has not
+abbrev pub noEvent : Event
+noEvent = record { thread = 0; operation = Mark 0 }
+
+-- the greatest of the good tuples of the slots, slot by slot, over the events of the log; `none` where there is none
+abbrev pub Greatest : List Event → List Slot → Option (List ℕ) → Type 0
+Greatest = BestOf noEvent dependent fits
+
+-- an event's place among those of its thread, counted from 1
+abbrev pub placeIn : List Event → ℕ → ℕ
+placeIn log = place (threadAt noEvent threadOf log)
+
+-- the number of a set of slots, which is a row of bits, one for each slot
+abbrev pub setNumber : List Bool → ℕ
+setNumber [] = 0
+setNumber (b ∷ bs) = cond b 1 0 + 2 * setNumber bs
+
+-- the row of set number m, entry by entry
+abbrev pub rowIn : List ℕ → ℕ → ℕ → ℕ
+rowIn table m j = getD table (rowOf m + j) 0
+
+-- the first n values
+abbrev pub listed : ℕ → (ℕ → ℕ) → List ℕ
+listed zero f = []
+listed (suc n) f = f 0 ∷ listed n (λ j. f (suc j))
+
+-- the event numbers of a row, for n slots
+abbrev pub numbersOf : ℕ → (ℕ → ℕ) → List ℕ
+numbersOf n r = listed n (λ j. r (lanes + j))
+
+-- the row has the place and the number of an event at the slots of the set, and none at the others
+pub record Filled (log : List Event) (bs : List Bool) (r : ℕ → ℕ) : Type 0 where
+  pub filled : (j : ℕ) → j < lanes → getD bs j false ≡ true → r j + 1 ≡ placeIn log (r (lanes + j))
+  pub no-place : (j : ℕ) → j < lanes → getD bs j false ≡ false → r j ≡ absent
+  pub no-number : (j : ℕ) → j < slots → getD bs j false ≡ false → r (lanes + j) ≡ 0
+
+-- the row is that of the set
+pub data Keeping (ss : List Slot) (log : List Event) (bs : List Bool) (r : ℕ → ℕ) : Type 0 where
+  kept : r held ≡ 1 → Greatest log (pick bs ss) (some (pick bs (numbersOf (length ss) r))) → Filled log bs r → Keeping ss log bs r
+  missing : r held ≡ 0 → Greatest log (pick bs ss) none → Keeping ss log bs r
+
+-- the table keeps the greatest good tuple of every set of the pattern's slots
+pub record Keeps (ss : List Slot) (log : List Event) (table : List ℕ) : Type 0 where
+  pub whole : length table ≡ size
+  pub short : length ss ≤ slots
+  pub low : (i : ℕ) (a : Event) → Numbered log i a → a .thread < threads
+  pub rows : (bs : List Bool) → length bs ≡ length ss → Keeping ss log bs (rowIn table (setNumber bs))
+
+-- the slots as an offer takes them: the pattern, and then thread 0, mark 0
+abbrev pub padded : List Slot → List Slot
+padded ss = ss ++ replicate (slots - length ss) (record { thread = 0; operation = MarkSlot 0 })
+
+-- an offer of the event that follows those of the log
+pub record Follows (ss : List Slot) (log : List Event) (pattern : List Slot) (n : ℕ) (e : Event) (stamp : Stamp) (number : ℕ) : Type 0 where
+  pub pattern-is : pattern ≡ padded ss
+  pub size-is : n ≡ length ss
+  pub number-is : number ≡ length log + 1
+  pub number-fits : number ≤ events
+  pub thread-low : e .thread < threads
+  pub stamp-is : StampOf (log ++ (e ∷ [])) (length log + 1) stamp
+
+-- "match with the smallest count of leading events that suffices and one event number per slot, or none with count 0 and all slot
+-- numbers 0"; "Numbers beyond the pattern's length are 0.": the numbers that are found in the table
+pub record Numbers (ss : List Slot) (log : List Event) (numbers : List ℕ) : Type 0 where
+  pub named : HasMatch ss log → Named ss log (length log) (take (length ss) numbers)
+  pub without : ¬ HasMatch ss log → numbers ≡ replicate slots 0
+  pub beyond : (j : ℕ) → length ss ≤ j → getD numbers j 0 ≡ 0
