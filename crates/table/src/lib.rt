@@ -13,7 +13,7 @@ ghost use Rattle.event.specs.declared.Slot.{Slot};
 ghost use Rattle.event.specs.Limits.{slots as slotLimit};
 ghost use Rattle.dependence.specs.Order.{HasMatch};
 ghost use Rattle.table.specs.Sets.{sets, width, size as tableSize};
-ghost use Rattle.table.specs.Table.{put, rowAt, roomIn, limitAt, limitsAfter, joined, setOffered, sweptTo, slotOffered, offered, freshTable, lastRow, foundIn, numbersIn};
+ghost use Rattle.table.specs.Table.{put, rowAt, roomIn, limitAt, limitsAfter, joined, setOffered, sweptTo, offered, freshTable, lastRow, foundIn, numbersIn};
 ghost use Rattle.table.specs.Keeps.{Keeps, Follows, Numbers};
 
 // A row has the places of the slots, then their event numbers, and last whether there is a row.
@@ -25,7 +25,7 @@ const HELD: usize = ROW - 1;
 
 const ABSENT: u16 = 65535;
 
-const SETS: usize = 32;
+const SETS: usize = 1 << event::SLOTS;
 
 pub const TABLE: usize = SETS * ROW;
 
@@ -99,12 +99,16 @@ pub fn offer(
     let mut k = size;
     while k > 0 {
         k -= 1;
-        let entry = Entry {
-            slot: k,
-            place,
-            number,
-        };
-        offer_slot(table, slots, sets, e, stamp, entry);
+        let s = slots[k];
+        if event::fit(s, e) {
+            let limits = limits_after(slots, k, stamp);
+            let entry = Entry {
+                slot: k,
+                place,
+                number,
+            };
+            sweep(table, sets, limits, entry);
+        }
     }
 }
 
@@ -126,26 +130,6 @@ fn power(k: usize) -> usize
         4 => 16,
         _ => 32,
     }
-}
-
-fn offer_slot(
-    table: &mut [u16; TABLE],
-    slots: [Slot; event::SLOTS],
-    count: usize,
-    e: Event,
-    stamp: Stamp,
-    entry: Entry,
-)
-    requires { ⌜ (entry .slot < slotLimit) × (count ≤ sets) ⌝ }
-    ensures { λ _. ⌜ now (table .exit) ≡ slotOffered (now (table .entry)) slots count e stamp entry ⌝ }
-{
-    let k = entry.slot;
-    let s = slots[k];
-    if !event::fit(s, e) {
-        return;
-    }
-    let limits = limits_after(slots, k, stamp);
-    sweep(table, count, limits, entry);
 }
 
 // The events of later slots may not come before the new one or be it: their places are at least its count of their threads.
