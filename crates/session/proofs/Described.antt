@@ -1,0 +1,214 @@
+-- A session goes on being described by its pattern and the events taken, and its verdict is theirs.
+use Prim.Native.Nat.{ℕ, zero, suc, _+_, _<_}
+use native.Mathlib.Omega.{arith}
+use native.Mathlib.Numerals.{add-one}
+use mathlib.Core.Path.{_≡_, refl, sym, ap, subst, _∙_}
+use mathlib.Core.Bool.{cond, false≢true}
+use mathlib.Core.List.{List, [], _∷_, _++_, reverse, append-assoc, append-nil, reverse-cons, reverse-reverse, reverse-append}
+use lib.Dec.{eqb}
+use lib.ListN.{length, length-append, length-reverse}
+use borrow.Author.Tests.{eqb-true, eq-eqb, ne-eqb}
+use Rattle.event.specs.declared.Event.{Event}
+use Rattle.event.specs.declared.Slot.{Slot}
+use Rattle.event.specs.Limits.{events}
+use Rattle.event.specs.Slots.{slotOf, fits}
+use Rattle.event.proofs.Tests.{by-test}
+use Rattle.event.proofs.InRange.{from-range}
+use Rattle.rules.specs.Accepted.{refusalAfter, takenAfter, Accepted, whole}
+use Rattle.rules.specs.State as rules
+use Rattle.rules.proofs.StateLaws as ruleLaws
+use Rattle.rules.proofs.AcceptedLists.{taken-iff}
+use Rattle.log.specs.Whole.{GoodPattern, no-slot, one-slot, Whole, accepted, refused, blank, patternOf, patternFrom, readPattern}
+use Rattle.log.proofs.PatternRoundTrip.{pattern-iff}
+use Rattle.command.specs.Bytes.{Bytes}
+use Rattle.event.specs.Range.{rangeRefusal}
+use Rattle.trace.proofs.Matches.{empty-match, match-append, match-whole}
+use Rattle.trace.proofs.Counts.{count-stays, count-starts, count-match}
+use Rattle.trace.proofs.Numbers.{named-append}
+use Rattle.dependence.specs.Dependence.{dependent}
+use Rattle.dependence.specs.Order.{HasMatch}
+use Rattle.clock.specs.Clocks.{stampBy, clocksAfter}
+use Rattle.clock.specs.Holds as clock
+use Rattle.clock.proofs.History as clockHistory
+use Rattle.table.specs.Table.{foundIn, numbersIn}
+use Rattle.table.specs.Keeps.{Keeps}
+use Rattle.table.proofs.History.{offer-kept}
+use Rattle.table.proofs.Start as tableStart
+use Rattle.table.proofs.Verdict.{found-match, found-numbers}
+use Rattle.session.specs.declared.Session.{Session}
+use Rattle.session.specs.Model.{slotsUsed, orLone, freshOn, tableAfter, advanced, handed, foundAt, verdictOf}
+use Rattle.session.specs.Meaning.{numberOf, takenBy, Searched, searching, matched, Describes, VerdictOf, match, none}
+
+no-match-yet : (ss : List Slot) → 0 < length ss → ¬ HasMatch ss []
+no-match-yet [] l h = omega arith
+no-match-yet (s ∷ ss) l h = empty-match dependent fits s ss h
+
+pub fresh-described : (ss : List Slot) → GoodPattern ss → Describes ss [] (freshOn (patternOf ss))
+fresh-described ss g =
+    record {
+      good = g;
+      pattern = refl;
+      taken = refl;
+      accepted = whole;
+      state = ruleLaws.nothing-yet;
+      search = searching clockHistory.nothing-yet (tableStart.nothing-yet ss (g .few)) (no-match-yet ss (g .some));
+    }
+
+-- ---- an event is taken
+
+module _ (ss : List Slot) (es : List Event) (s : Session) (h : Describes ss es s) (e : Event) (z : refusalAfter (reverse es) e ≡ 0) where
+  abbrev longer : List Event
+  longer = es ++ (e ∷ [])
+
+  backwards : reverse longer ≡ e ∷ reverse es
+  backwards = reverse-append es (e ∷ [])
+
+  clear : ruleLaws.Clear (reverse es) e
+  clear = ruleLaws.clear (reverse es) e z
+
+  as-many : s .taken ≡ length (reverse es)
+  as-many = h .taken ∙ sym (length-reverse es)
+
+  room : length es < events
+  room = let r : length (reverse es) < events = clear .room in let n : length (reverse es) ≡ length es = length-reverse es in omega arith
+
+  state-after : rules.Holds (reverse longer) (rules.stateAfter (s .state) (s .taken) e)
+  unfolding takenAfter
+  state-after =
+      let r = ruleLaws.handed-over (reverse es) (s .state) e (h .state) in
+      let t : takenAfter (reverse es) e ≡ e ∷ reverse es = rw (eq-eqb (refusalAfter (reverse es) e) 0 z) in
+      rw (backwards, as-many) (rw t at r)
+
+  accepted-after : Accepted longer
+  accepted-after = rw (reverse-reverse es) at (taken-iff (reverse es) e (rw (reverse-reverse es) (h .accepted)) .0 z)
+
+  -- the event has arrived at the clocks, and is offered to the table
+  arrived : clock.Holds es (s .clocks) → clock.Arrived es e (stampBy (s .clocks) e) (clocksAfter (s .clocks) e)
+  arrived c = clockHistory.arrived (s .clocks) e _ _ refl refl .1 .1 es c room (from-range (slotOf e) (clear .range))
+
+  kept-after : clock.Holds es (s .clocks) → Keeps ss es (s .table) → Keeps ss longer (tableAfter s e)
+  kept-after c k =
+      offer-kept ss es (s .pattern .slots) (s .pattern .size) e (stampBy (s .clocks) e) (s .taken + 1) (s .table) k
+      (record {
+        pattern-is = ap (λ p. p .slots) (h .pattern);
+        size-is = ap (λ p. p .size) (h .pattern);
+        number-is = ap (λ (n : ℕ). n + 1) (h .taken);
+        number-fits = let n : s .taken ≡ length es = h .taken in let r : length es < events = room in omega arith;
+        thread-low = clear .range .thread;
+        stamp-is = arrived c .stamp;
+      })
+
+  -- a match is found with this event, or none yet
+  found-or-not : clock.Holds es (s .clocks) → Keeps ss es (s .table) → ¬ HasMatch ss es
+      → Searched ss longer (clocksAfter (s .clocks) e) (tableAfter s e) (cond (foundIn (tableAfter s e) (s .pattern .size)) (s .taken + 1) 0)
+  found-or-not c k d =
+      by-test (foundIn (tableAfter s e) (s .pattern .size))
+      (λ q.
+      let m = found-match ss longer (tableAfter s e) (kept-after c k) .0 (by-size ∙ q) in
+      rw q
+      (subst (λ (n : ℕ). Searched ss longer (clocksAfter (s .clocks) e) (tableAfter s e) n) (sym counted)
+      (matched longer [] (sym (append-nil longer)) long (count-starts dependent fits ss es e d m) (kept-after c k))))
+      (λ q. rw q (searching (arrived c .holds) (kept-after c k) (λ m. false≢true (sym (by-size ∙ q) ∙ found-match ss longer (tableAfter s e) (kept-after c k) .1 m))))
+    where
+      by-size : foundIn (tableAfter s e) (length ss) ≡ foundIn (tableAfter s e) (s .pattern .size)
+      by-size = ap (foundIn (tableAfter s e)) (sym (ap (λ p. p .size) (h .pattern)))
+
+      counted : s .taken + 1 ≡ suc (length es)
+      counted = let n : s .taken ≡ length es = h .taken in omega arith
+
+      long : length longer ≡ suc (length es)
+      long = length-append es (e ∷ []) ∙ add-one (length es)
+
+  searched-after : Searched ss longer (advanced s e .clocks) (advanced s e .table) (advanced s e .count)
+  unfolding advanced
+  searched-after = go (s .count) refl (h .search)
+    where
+      go : (c : ℕ) → s .count ≡ c → Searched ss es (s .clocks) (s .table) c
+          → Searched ss longer (advanced s e .clocks) (advanced s e .table) (advanced s e .count)
+      go zero q (searching c k d) = rw (eq-eqb (s .count) 0 q) (found-or-not c k d)
+      go (suc n) q (matched lead later p l c k) =
+          rw (ne-eqb (s .count) 0 (λ z. let f : ⊥ = omega arith in f), q)
+          (matched lead (later ++ (e ∷ [])) (ap (λ (x : List Event). x ++ (e ∷ [])) p ∙ append-assoc lead later (e ∷ [])) l c k)
+
+  pub advanced-described : Describes ss longer (advanced s e)
+  unfolding advanced
+  advanced-described =
+      record {
+        good = h .good;
+        pattern = same-pattern;
+        taken = one-taken;
+        accepted = accepted-after;
+        state = same-state;
+        search = searched-after;
+      }
+    where
+      same-pattern : advanced s e .pattern ≡ patternOf ss
+      same-pattern = by-test (eqb (s .count) 0) (λ q. rw q (h .pattern)) (λ q. rw q (h .pattern))
+
+      one-taken : advanced s e .taken ≡ length longer
+      one-taken =
+          let n : s .taken + 1 ≡ length longer = ap (λ (k : ℕ). k + 1) (h .taken) ∙ sym (length-append es (e ∷ [])) in
+          by-test (eqb (s .count) 0) (λ q. rw q n) (λ q. rw q n)
+
+      same-state : rules.Holds (reverse longer) (advanced s e .state)
+      same-state = by-test (eqb (s .count) 0) (λ q. rw q state-after) (λ q. rw q state-after)
+
+-- ---- any event is handed over
+
+pub handed-described : (ss : List Slot) (es : List Event) (s : Session) → Describes ss es s → (e : Event)
+    → (numberOf (handed s e .answer) ≡ refusalAfter (reverse es) e) × Describes ss (takenBy es e) (handed s e .session)
+unfolding handed takenAfter
+handed-described ss es s h e =
+    let n : s .taken ≡ length (reverse es) = h .taken ∙ sym (length-reverse es) in
+    let r : rules.refusalBy (s .state) (s .taken) e ≡ refusalAfter (reverse es) e =
+    rw n (ruleLaws.refusal-agrees (reverse es) (s .state) e (h .state)) in
+    rw r
+    (by-test (eqb (refusalAfter (reverse es) e) 0)
+    (λ q.
+    rw (q, reverse-cons e (reverse es), reverse-reverse es)
+    (sym (eqb-true (refusalAfter (reverse es) e) 0 q), advanced-described ss es s h e (eqb-true (refusalAfter (reverse es) e) 0 q)))
+    (λ q. rw (q, reverse-reverse es) (refl, h)))
+
+-- ---- the verdict
+
+pub verdict-described : (ss : List Slot) (es : List Event) (s : Session) → Describes ss es s → VerdictOf ss es (verdictOf s)
+verdict-described ss es s h = rw size-is (go (s .count) refl (h .search))
+  where
+    size-is : s .pattern .size ≡ length ss
+    size-is = ap (λ p. p .size) (h .pattern)
+
+    go : (c : ℕ) → s .count ≡ c → Searched ss es (s .clocks) (s .table) c
+        → VerdictOf ss es (record { found = foundAt (s .count); numbers = numbersIn (s .table) (length ss) })
+    go zero q (searching c k d) = rw (eq-eqb (s .count) 0 q, found-numbers ss es (s .table) k .without d) (none d)
+    go (suc m) q (matched lead later p l c k) =
+        let n = found-numbers ss lead (s .table) k in
+        let whole-lead : HasMatch ss lead = match-whole dependent fits ss lead (suc m) (count-match dependent fits c .0) in
+        rw (ne-eqb (s .count) 0 (λ z. let f : ⊥ = omega arith in f), q)
+        (match {n = suc m} {numbers = numbersIn (s .table) (length ss)}
+        (rw p (match-append dependent fits ss lead later whole-lead))
+        (rw p (count-stays dependent fits ss lead later m c))
+        (rw p (named-append dependent fits later (rw l at (n .named whole-lead))))
+        (n .beyond))
+
+-- ---- an opening
+
+lone-good : GoodPattern (blank ∷ [])
+unfolding rangeRefusal
+lone-good = record { some = omega arith; few = omega arith; limits = one-slot refl no-slot }
+
+-- the slots that a session looks for are always a good pattern
+pub used-good : (bytes : List ℕ) → Bytes bytes → GoodPattern (slotsUsed (readPattern bytes))
+used-good bytes b = go (readPattern bytes) refl
+  where
+    go : (w : Whole Slot) → readPattern bytes ≡ w → GoodPattern (slotsUsed w)
+    go (accepted ss) q = pattern-iff bytes b ss .0 q .0
+    go (refused k o) q = lone-good
+
+pub used-pattern : (bytes : List ℕ) → Bytes bytes → orLone (patternFrom (readPattern bytes)) ≡ patternOf (slotsUsed (readPattern bytes))
+used-pattern bytes b = go (readPattern bytes) refl
+  where
+    go : (w : Whole Slot) → readPattern bytes ≡ w → orLone (patternFrom w) ≡ patternOf (slotsUsed w)
+    go (accepted ss) q =
+        let l : 0 < length ss = pattern-iff bytes b ss .0 q .0 .some in
+        rw (ne-eqb (length ss) 0 (λ z. let f : ⊥ = omega arith in f))
+    go (refused k o) q = refl

@@ -1,0 +1,4 @@
+pub mod Described
+pub mod Steps
+pub mod Running
+pub mod Demand

@@ -1,0 +1,18 @@
+use borrow.Author.Needs.{needs}
+use Rattle.session.proofs.outcome_of.Statement.{statement}
+use Rattle.session.proofs.outcome_of.Tie as tie
+
+enum-known-found : tie.Need-enum-known-found
+enum-known-found c = search needs
+
+enum-told : tie.Need-enum-told
+enum-told c = search needs
+
+returns : tie.Need-returns
+returns c = rw (c .before .found .given .1)
+
+returns-2 : tie.Need-returns-2
+returns-2 c = rw (c .enum-told .given .1)
+
+pub outcome-of-spec : {M : Type 1} → statement M
+outcome-of-spec = tie.close (tie.spec enum-known-found enum-told returns returns-2)

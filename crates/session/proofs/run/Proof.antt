@@ -1,0 +1,35 @@
+use mathlib.Core.Path.{sym, ap, _∙_}
+use Rattle.command.specs.Bytes.{Bytes}
+use Rattle.log.specs.Whole.{patternAnswerIs}
+use Rattle.session.proofs.Running.{refused-pattern, accepted-pattern}
+use borrow.Author.Needs.{needs}
+use Rattle.session.proofs.run.Statement.{statement}
+use Rattle.session.proofs.run.Tie as tie
+
+read-pattern-requires : tie.Need-read-pattern-requires
+read-pattern-requires c κs = search needs
+
+enum-known-answer : tie.Need-enum-known-answer
+enum-known-answer c = search needs
+
+enum-told : tie.Need-enum-told
+enum-told c = search needs
+
+run-on-requires : tie.Need-run-on-requires
+run-on-requires c κs = search needs
+
+returns : tie.Need-returns
+returns c = let given = c .before .answer .given in
+    refused-pattern _ _ (given .0 .0) (given .0 .1 .0) (sym (ap patternAnswerIs (given .1)) ∙ c .before .before .before .before .read-pattern .ensures .answer)
+
+returns-2 : tie.Need-returns-2
+returns-2 c = let bytes = c .before .before .before .before .before .before .before .args .pattern .now in
+    let is-bytes : Bytes bytes = λ k. c .before .before .before .before .before .before .shared-slice-known .given k .fits in
+    let read = c .before .before .before .before .read-pattern .ensures in
+    let told = c .before .enum-told .given .1 in
+    accepted-pattern bytes _ is-bytes _ (sym (ap patternAnswerIs told) ∙ read .answer) _ (λ ss g p. c .run-on .ensures ss g (read .pattern ∙ p))
+
+pub run-spec : {M : Type 1} → statement M
+run-spec =
+    tie.close
+    (tie.spec read-pattern-requires enum-known-answer enum-told run-on-requires returns returns-2)

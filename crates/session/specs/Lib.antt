@@ -1,0 +1,3 @@
+pub mod Model
+pub mod Meaning
+pub mod History

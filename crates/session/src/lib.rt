@@ -1,0 +1,252 @@
+// Sessions that take events one by one, and runs over a whole log: whether some order of the events holds the pattern.
+use command::Decoded;
+use event::Event;
+use log::Pattern;
+use log::PatternAnswer;
+ghost use mathlib.Core.Path.{_≡_};
+ghost use mathlib.Core.Bool.{cond};
+ghost use mathlib.Core.List.{List, reverse};
+ghost use lib.ListN.{replicate};
+ghost use Rattle.event.specs.declared.Event.{Event};
+ghost use Rattle.event.specs.declared.Slot.{Slot};
+ghost use Rattle.event.specs.Limits.{slots as slotLimit};
+ghost use Rattle.rules.specs.Accepted.{refusalAfter};
+ghost use Rattle.log.specs.Whole.{GoodPattern, patternOf};
+ghost use Rattle.session.specs.Model.{orLone, freshOn, handed, foundAt, verdictOf, judgedBy};
+ghost use Rattle.session.specs.Meaning.{OpenedOn, Describes, VerdictOf, numberOf, takenBy, RunOn, RunOf};
+
+// The pattern, what is kept of the events taken, how many they are, and the count of the match, 0 without one.
+pub struct Session {
+    pub pattern: Pattern,
+    pub state: [u8; rules::STATE],
+    pub clocks: [u16; clock::CLOCKS],
+    pub table: [u16; table::TABLE],
+    pub taken: usize,
+    pub count: usize,
+}
+
+// The session, beside what became of the pattern: a refused one leaves a session on the lone slot thread 0, mark 0.
+pub struct Opened {
+    pub answer: PatternAnswer,
+    pub session: Session,
+}
+
+pub enum Answer {
+    Taken,
+    Refused { number: u8, offset: usize },
+}
+
+pub struct Handed {
+    pub answer: Answer,
+    pub session: Session,
+}
+
+pub enum Found {
+    Match { count: usize },
+    None,
+}
+
+// Whether there is a match, and the event number of each slot; 0 beyond the pattern and without a match.
+pub struct Verdict {
+    pub found: Found,
+    pub numbers: [u16; event::SLOTS],
+}
+
+pub enum Outcome {
+    Match { count: usize },
+    None,
+    PatternRefused { number: u8, offset: usize },
+    LogRefused { number: u8, offset: usize },
+}
+
+pub struct Judged {
+    pub outcome: Outcome,
+    pub numbers: [u16; event::SLOTS],
+}
+
+impl Session {
+    pub const THREADS: u8 = event::THREADS;
+
+    pub const SLOTS: usize = event::SLOTS;
+
+    pub const EVENTS: usize = event::EVENTS;
+
+    // Opens a session on a pattern.
+    pub fn open(pattern: &[u8]) -> Opened
+        ensures { λ r. ⌜ OpenedOn (now (pattern .entry)) r ⌝ }
+    {
+        let read = log::read_pattern(pattern);
+        let answer = read.answer;
+        let p = read.pattern;
+        let used = or_lone(p);
+        let session = fresh(used);
+        Opened { answer, session }
+    }
+
+    // Hands over one event. A refused one leaves the session as it was.
+    pub fn take(mut self, e: Event) -> Handed
+        ensures exact { λ r. ⌜ r ≡ handed self e ⌝ }
+        ensures history { λ r. ⌜ ((ss : List Slot) (es : List Event) → Describes ss es self → (numberOf (r .answer) ≡ refusalAfter (reverse es) e) × Describes ss (takenBy es e) (r .session)) ⌝ }
+    {
+        let taken = self.taken;
+        let k = rules::admit(&mut self.state, taken, e);
+        if k != 0 {
+            let answer = Answer::Refused {
+                number: k,
+                offset: 0,
+            };
+            let session = self;
+            return Handed { answer, session };
+        }
+        let n = taken + 1;
+        self.taken = n;
+        if self.count != 0 {
+            return Handed {
+                answer: Answer::Taken,
+                session: self,
+            };
+        }
+        let p = self.pattern;
+        let slots = p.slots;
+        let size = p.size;
+        let stamp = clock::advance(&mut self.clocks, e);
+        table::offer(&mut self.table, slots, size, e, stamp, n as u16);
+        let found = table::found(&self.table, size);
+        self.count = count_if(found, n);
+        Handed {
+            answer: Answer::Taken,
+            session: self,
+        }
+    }
+
+    // What the session has found in the events taken so far.
+    pub fn verdict(self) -> Verdict
+        ensures exact { λ r. ⌜ r ≡ verdictOf self ⌝ }
+        ensures history { λ r. ⌜ ((ss : List Slot) (es : List Event) → Describes ss es self → VerdictOf ss es r) ⌝ }
+    {
+        let p = self.pattern;
+        let size = p.size;
+        let numbers = table::numbers(&self.table, size);
+        let found = found_at(self.count);
+        Verdict { found, numbers }
+    }
+}
+
+// Judges a whole log by a pattern.
+pub fn run(pattern: &[u8], log: &[u8]) -> Judged
+    ensures { λ r. ⌜ RunOf (now (pattern .entry)) (now (log .entry)) r ⌝ }
+{
+    let read = log::read_pattern(pattern);
+    let answer = read.answer;
+    let p = read.pattern;
+    match answer {
+        PatternAnswer::PatternRefused { number, offset } => Judged {
+            outcome: Outcome::PatternRefused { number, offset },
+            numbers: [0; event::SLOTS],
+        },
+        PatternAnswer::Accepted { slots: _ } => run_on(p, log),
+    }
+}
+
+// Keeps one session in place for the whole log, and lends its parts.
+fn run_on(p: Pattern, log: &[u8]) -> Judged
+    ensures { λ r. ⌜ ((ss : List Slot) → GoodPattern ss → p ≡ patternOf ss → RunOn ss (now (log .entry)) r) ⌝ }
+{
+    let mut z = fresh(p);
+    let slots = p.slots;
+    let size = p.size;
+    let mut at: usize = 0;
+    loop {
+        let step = command::decode(log, at, true);
+        let Decoded::Command { event, next } = step else {
+            let Decoded::Refused { number, offset } = step else {
+                return outcome_of(z.verdict());
+            };
+            return log_refused(number, offset);
+        };
+        let taken = z.taken;
+        let k = rules::admit(&mut z.state, taken, event);
+        if k != 0 {
+            return log_refused(k, at);
+        }
+        let n = taken + 1;
+        z.taken = n;
+        at = next;
+        if z.count != 0 {
+            continue;
+        }
+        let stamp = clock::advance(&mut z.clocks, event);
+        table::offer(&mut z.table, slots, size, event, stamp, n as u16);
+        let found = table::found(&z.table, size);
+        z.count = count_if(found, n);
+    }
+}
+
+fn log_refused(number: u8, offset: usize) -> Judged
+    ensures { λ r. ⌜ r ≡ record { outcome = Outcome.LogRefused number offset; numbers = replicate slotLimit 0 } ⌝ }
+{
+    Judged {
+        outcome: Outcome::LogRefused { number, offset },
+        numbers: [0; event::SLOTS],
+    }
+}
+
+fn outcome_of(v: Verdict) -> Judged
+    ensures { λ r. ⌜ r ≡ judgedBy v ⌝ }
+{
+    let found = v.found;
+    let numbers = v.numbers;
+    match found {
+        Found::Match { count } => Judged {
+            outcome: Outcome::Match { count },
+            numbers,
+        },
+        Found::None => Judged {
+            outcome: Outcome::None,
+            numbers,
+        },
+    }
+}
+
+fn found_at(count: usize) -> Found
+    ensures { λ r. ⌜ r ≡ foundAt count ⌝ }
+{
+    if count == 0 {
+        return Found::None;
+    }
+    Found::Match { count }
+}
+
+fn count_if(found: bool, n: usize) -> usize
+    ensures { λ r. ⌜ r ≡ cond found n 0 ⌝ }
+{
+    if found { n } else { 0 }
+}
+
+// The pattern, or the lone slot where there is none.
+fn or_lone(p: Pattern) -> Pattern
+    ensures { λ r. ⌜ r ≡ orLone p ⌝ }
+{
+    if p.size != 0 {
+        return p;
+    }
+    let slots = p.slots;
+    Pattern { slots, size: 1 }
+}
+
+// The session on a pattern, with no event taken.
+fn fresh(p: Pattern) -> Session
+    ensures { λ r. ⌜ r ≡ freshOn p ⌝ }
+{
+    let state = rules::fresh();
+    let clocks = clock::fresh();
+    let table = table::fresh();
+    Session {
+        pattern: p,
+        state,
+        clocks,
+        table,
+        taken: 0,
+        count: 0,
+    }
+}
