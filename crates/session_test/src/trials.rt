@@ -4,11 +4,13 @@ use command::Decoded;
 use session::Session;
 
 pub(crate) fn run() {
-    bench_trials();
+    marks();
+    variables_and_locks();
+    limits();
     refusals();
 }
 
-fn bench_trials() {
+fn marks() {
     judge(b"trial 1", b"\x07\x01\x0A\x00\x00", b"\x00");
     let pattern = b"\x07\x01\x0A\x00\x07\x00\x14\x00\x07\x00\x15\x00\x07\x01\x0B\x00\x00";
     judge(
@@ -31,6 +33,9 @@ fn bench_trials() {
         b"\x07\x00\x07\x00\x07\x00\x07\x00\x00",
         b"\x07\x00\x07\x00\x07\x00\x07\x00\x00",
     );
+}
+
+fn variables_and_locks() {
     judge(
         b"trial 5, reads",
         b"\x01\x01\x03\x01\x00\x03\x00",
@@ -51,6 +56,9 @@ fn bench_trials() {
         b"\x07\x01\x05\x00\x05\x00\x01\x00",
         b"\x05\x00\x01\x07\x01\x05\x00\x00",
     );
+}
+
+fn limits() {
     judge(
         b"trial 8, thread 7",
         b"\x07\x01\x0A\x00\x00",
