@@ -1,0 +1,22 @@
+use mathlib.Core.Path.{refl}
+use borrow.Author.Tests.{lt-ltb, le-ltb}
+use borrow.Author.Needs.{needs}
+use Rattle.listing_text.proofs.Page.byte.Statement.{statement}
+use Rattle.listing_text.proofs.Page.byte.Tie as tie
+use Rattle.listing_text.proofs.Page.byte.Reads as reads
+use Rattle.listing_text.proofs.Page.byte.Lts as lts
+
+returns : tie.Need-returns
+returns c = rw (le-ltb _ _ (c .if1 .taken)) refl
+
+element-write-self : tie.Need-element-write-self
+element-write-self c = search needs
+
+add-self : tie.Need-add-self
+add-self c = search needs
+
+returns-2 : tie.Need-returns-2
+returns-2 c = rw (lt-ltb _ _ (c .if1 .left)) refl
+
+pub byte-spec : {M : Type 1} → statement M
+byte-spec = tie.close (tie.spec returns element-write-self add-self returns-2)

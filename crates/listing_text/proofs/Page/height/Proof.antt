@@ -1,0 +1,27 @@
+use mathlib.Core.Path.{_≡_, ap, _∙_}
+use Rattle.height.specs.declared.Metres.{Metres}
+use Rattle.height.specs.Rounding.{metresOf}
+use Rattle.height.proofs.Tenths.{held-is}
+use Rattle.listing_text.specs.Text.{metresText, heightText}
+use Rattle.listing_text.specs.Page.{onto}
+use borrow.Author.Needs.{needs}
+use Rattle.listing_text.proofs.Page.height.Statement.{statement}
+use Rattle.listing_text.proofs.Page.height.Tie as tie
+use Rattle.listing_text.proofs.Page.height.Reads as reads
+use Rattle.listing_text.proofs.Page.height.Lts as lts
+use Rattle.height.proofs.in_metres.Reads as in-metres-reads
+use Rattle.listing_text.proofs.Page.metres.Reads as metres-reads
+
+in-metres-requires : tie.Need-in-metres-requires
+in-metres-requires c κs = search needs
+
+metres-requires : tie.Need-metres-requires
+metres-requires c κs = search needs
+
+returns : tie.Need-returns
+unfolding heightText
+returns c = c .metres .ensures ∙ ap (λ (m : Metres). onto (c .before .before .args .self) (metresText m))
+    (c .before .in-metres .ensures ∙ ap metresOf (held-is (c .before .before .args .mm) (c .before .before .fits .mm .sfits)))
+
+pub height-spec : {M : Type 1} → statement M
+height-spec = tie.close (tie.spec in-metres-requires metres-requires returns)

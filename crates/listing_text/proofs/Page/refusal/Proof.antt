@@ -1,0 +1,41 @@
+use Rattle.listing_text.proofs.Onto.{onto-append}
+use borrow.Author.Needs.{needs}
+use Rattle.listing_text.proofs.Page.refusal.Statement.{statement}
+use Rattle.listing_text.proofs.Page.refusal.Tie as tie
+use Rattle.listing_text.proofs.Page.refusal.Reads as reads
+use Rattle.listing_text.proofs.Page.refusal.Lts as lts
+use Rattle.listing_text.proofs.Page.text.Reads as text-reads
+use Rattle.listing_text.proofs.Page.word.Reads as word-reads
+
+slice-aggregate-word : tie.Need-slice-aggregate-word
+slice-aggregate-word c = search needs
+
+word-requires : tie.Need-word-requires
+word-requires c κs = search needs
+
+slice-aggregate-word-2 : tie.Need-slice-aggregate-word-2
+slice-aggregate-word-2 c = search needs
+
+word-requires-2 : tie.Need-word-requires-2
+word-requires-2 c κs = search needs
+
+slice-aggregate-text : tie.Need-slice-aggregate-text
+slice-aggregate-text c = search needs
+
+text-requires : tie.Need-text-requires
+text-requires c κs = search needs
+
+returns : tie.Need-returns
+returns c = simp (← onto-append) (cc (c .before .before .before .before .word .ensures, c .before .before .word2 .ensures, c .text .ensures))
+
+pub refusal-spec : {M : Type 1} → statement M
+refusal-spec =
+    tie.close
+    (tie.spec
+    slice-aggregate-word
+    word-requires
+    slice-aggregate-word-2
+    word-requires-2
+    slice-aggregate-text
+    text-requires
+    returns)

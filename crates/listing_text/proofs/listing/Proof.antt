@@ -1,0 +1,69 @@
+use Rattle.listing_text.proofs.Lengths.{fits-a-page}
+use Rattle.listing_text.proofs.Judgement.{listed}
+use Rattle.listing_text.specs.Listing.{long-pattern, long-log, judged}
+use Rattle.listing_text.specs.Page.{textOf}
+use Rattle.listing_text.specs.Text.{tooLongLine}
+use lib.ListN.{length}
+use mathlib.Core.Path.{_≡_}
+use native.Mathlib.Omega.{arith}
+use borrow.Author.Needs.{needs}
+use Rattle.listing_text.proofs.listing.Statement.{statement}
+use Rattle.listing_text.proofs.listing.Tie as tie
+use Rattle.listing_text.proofs.listing.Reads as reads
+use Rattle.listing_text.proofs.listing.Lts as lts
+use Rattle.listing_text.proofs.Page.text.Reads as text-reads
+use Rattle.listing_text.proofs.empty.Reads as empty-reads
+use Rattle.listing_text.proofs.verdict.Reads as verdict-reads
+use Rattle.session.proofs.run.Reads as run-reads
+
+empty-requires : tie.Need-empty-requires
+empty-requires c κs = search needs
+
+slice-aggregate-text : tie.Need-slice-aggregate-text
+slice-aggregate-text c = search needs
+
+text-requires : tie.Need-text-requires
+text-requires c κs = search needs
+
+returns : tie.Need-returns
+returns c = (tooLongLine, long-pattern (c .before .before .if1 .taken), omega arith, cc (c .before .before .before .empty .ensures, c .text .ensures))
+
+slice-aggregate-text-2 : tie.Need-slice-aggregate-text-2
+slice-aggregate-text-2 c = search needs
+
+text-requires-2 : tie.Need-text-requires-2
+text-requires-2 c κs = search needs
+
+returns-2 : tie.Need-returns-2
+returns-2 c = (tooLongLine, long-log (c .before .before .if2 .taken), omega arith, cc (c .before .before .before .before .empty .ensures, c .text2 .ensures))
+
+run-requires : tie.Need-run-requires
+run-requires c κs = search needs
+
+verdict-requires : tie.Need-verdict-requires
+verdict-requires c κs = search needs
+
+returns-3 : tie.Need-returns-3
+returns-3 c =
+    let a = c .before .before .before .before .before .before .before .args in
+    let r = c .before .run .result in (
+      textOf (a .log .now) (r .outcome) (r .numbers),
+      judged (c .before .before .before .if1 .left) (c .before .before .if2 .left) (listed (a .pattern .now) (a .log .now) r (c .before .run .ensures)),
+      fits-a-page (a .log .now) (r .outcome) (r .numbers) (let n : length (r .numbers) ≡ 5 = search needs in omega arith),
+      cc (c .before .before .before .before .empty .ensures, c .verdict .ensures),
+    )
+
+pub listing-spec : {M : Type 1} → statement M
+listing-spec =
+    tie.close
+    (tie.spec
+    empty-requires
+    slice-aggregate-text
+    text-requires
+    returns
+    slice-aggregate-text-2
+    text-requires-2
+    returns-2
+    run-requires
+    verdict-requires
+    returns-3)

@@ -1,0 +1,97 @@
+use Rattle.listing_text.proofs.SlotLines.{all-put, at-zero, one-line}
+use Rattle.listing_text.specs.Text.{slotLine}
+use Rattle.event.specs.declared.Event.{Event}
+use borrow.Author.Needs.{needs}
+use lib.ListN.{length, getD}
+use mathlib.Core.Path.{refl, ap, _∙_}
+use native.Mathlib.Omega.{arith}
+use Rattle.listing_text.specs.Page.{onto, linesOf}
+use lib.ListN.{drop}
+use mathlib.Core.Path.{_≡_}
+use Prim.Native.Nat.{_+_, _-_, _≤_}
+use Rattle.listing_text.proofs.slot_lines.Statement.{statement}
+use Rattle.listing_text.proofs.slot_lines.Tie as tie
+use Rattle.listing_text.proofs.slot_lines.Reads as reads
+use Rattle.listing_text.proofs.slot_lines.Lts as lts
+use Rattle.listing_text.proofs.Page.slot_line.Reads as slot-line-reads
+use Rattle.listing_text.proofs.event_after.Reads as event-after-reads
+
+abbrev Inv-loop : tie.InvT-loop
+Inv-loop log numbers p₀ j₀ p j = (j ≤ 5) × (onto p (linesOf log (j + 1) (drop j numbers)) ≡ onto p₀ (linesOf log 1 numbers))
+
+abbrev μ-loop : tie.MeasureT-loop
+μ-loop log numbers p₀ j₀ p j = 5 - j
+
+loop-holds : tie.Need-loop-holds Inv-loop μ-loop
+loop-holds c = (omega arith, refl)
+
+mul-n : tie.Need-mul-n Inv-loop μ-loop
+mul-n c = search needs
+
+array-read-n : tie.Need-array-read-n Inv-loop μ-loop
+array-read-n c = search needs
+
+returns : tie.Need-returns Inv-loop μ-loop
+returns c =
+    let l = c .before .before .loop in
+    at-zero (c .before .before .before .before .args .log .now) (c .before .before .before .before .args .t3) _ (l .p) (l .j) (l .inv .1) (let n : length (c .before .before .before .before .args .t3) ≡ 5 = search needs in let u = c .before .loop-test .taken in omega arith) (c .if1 .taken)
+
+cast-event-after : tie.Need-cast-event-after Inv-loop μ-loop
+cast-event-after c = search needs
+
+sub-event-after : tie.Need-sub-event-after Inv-loop μ-loop
+sub-event-after c = search needs
+
+event-after-requires : tie.Need-event-after-requires Inv-loop μ-loop
+event-after-requires c κs = search needs
+
+add-slot-line : tie.Need-add-slot-line Inv-loop μ-loop
+add-slot-line c = search needs
+
+cast-slot-line : tie.Need-cast-slot-line Inv-loop μ-loop
+cast-slot-line c = search needs
+
+slot-line-requires : tie.Need-slot-line-requires Inv-loop μ-loop
+slot-line-requires c κs = search needs
+
+add-j : tie.Need-add-j Inv-loop μ-loop
+add-j c = search needs
+
+loop-less : tie.Need-loop-less Inv-loop μ-loop
+loop-less c = search needs
+
+loop-again : tie.Need-loop-again Inv-loop μ-loop
+loop-again c =
+    let a = c .before .before .before .before .before .before .args in
+    let l = c .before .before .before .before .loop in
+    let e = c .before .event-after .ensures in (
+      omega arith,
+      one-line (a .log .now) (a .t3) _ (l .p) (l .j) (l .inv .1) (let n : length (a .t3) ≡ 5 = search needs in let u = c .before .before .before .loop-test .taken in omega arith) (c .slot-line .result) (c .before .before .if1 .left)
+          (c .slot-line .ensures ∙ ap (λ (x : Event). onto (l .p) (slotLine (l .j + 1) (getD (a .t3) (l .j) 0) x)) e),
+    )
+
+returns-2 : tie.Need-returns-2 Inv-loop μ-loop
+returns-2 c =
+    let l = c .before .loop in
+    all-put (c .before .before .before .args .log .now) (c .before .before .before .args .t3) _ (l .p) (l .j) (l .inv .1) (let n : length (c .before .before .before .args .t3) ≡ 5 = search needs in let u = l .inv .0 in let v = c .loop-test .left in omega arith)
+
+pub slot-lines-spec : {M : Type 1} → statement M
+slot-lines-spec =
+    tie.close
+    (tie.spec
+    Inv-loop
+    μ-loop
+    loop-holds
+    mul-n
+    array-read-n
+    returns
+    cast-event-after
+    sub-event-after
+    event-after-requires
+    add-slot-line
+    cast-slot-line
+    slot-line-requires
+    add-j
+    loop-less
+    loop-again
+    returns-2)

@@ -1,0 +1,48 @@
+-- What the listing of a pattern and a log is, for every two byte strings.
+use Prim.Native.Nat.{ℕ, _+_, _<_, _≤_}
+use mathlib.Core.Path.{_≡_}
+use mathlib.Core.List.{List, [], _∷_, _++_}
+use lib.ListN.{length}
+use Rattle.event.specs.declared.Event.{Event}
+use Rattle.event.specs.declared.Slot.{Slot}
+use Rattle.command.specs.declared.Written.{Written}
+use Rattle.command.specs.Writing.{writing, writtenIs, bufferAfter}
+use Rattle.log.specs.Whole.{accepted, refused, readLog, readPattern}
+use Rattle.trace.specs.Before.{Numbered}
+use Rattle.dependence.specs.Order.{HasMatch, IsCount, Named}
+use Rattle.listing_text.specs.Text.{slotLine, refusalLine, patternRefusalLine, noMatchLine, matchLine, tooLongLine}
+
+-- "each at most 65,536 bytes"
+abbrev pub longest : ℕ
+longest = 65536
+
+-- "a line per slot", from this slot number on: of the events numbered
+pub data SlotLines (es : List Event) : ℕ → List ℕ → List ℕ → Type 0 where
+  none : {slot : ℕ} → SlotLines es slot [] []
+  line : {slot n : ℕ} {e : Event} {ns rest : List ℕ} → Numbered es n e → SlotLines es (slot + 1) ns rest → SlotLines es slot (n ∷ ns) (slotLine slot n e ++ rest)
+
+-- of a pattern and a log, neither too long
+pub data Judged (pattern log : List ℕ) : List ℕ → Type 0 where
+  pattern-refused : {k o : ℕ} → readPattern pattern ≡ refused k o → Judged pattern log (patternRefusalLine k o)
+  log-refused : {ss : List Slot} {k o : ℕ} → readPattern pattern ≡ accepted ss → readLog log ≡ refused k o → Judged pattern log (refusalLine k o)
+  no-match : {ss : List Slot} {es : List Event} → readPattern pattern ≡ accepted ss → readLog log ≡ accepted es → ¬ HasMatch ss es
+      → Judged pattern log noMatchLine
+  match : {ss : List Slot} {es : List Event} {n : ℕ} {numbers lines : List ℕ} → readPattern pattern ≡ accepted ss → readLog log ≡ accepted es
+      → HasMatch ss es → IsCount ss es n → Named ss es n numbers → SlotLines es 1 numbers lines → Judged pattern log (matchLine n ++ lines)
+
+-- "if either is longer it prints `too long` alone"
+pub data Listing (pattern log : List ℕ) : List ℕ → Type 0 where
+  long-pattern : longest < length pattern → Listing pattern log tooLongLine
+  long-log : longest < length log → Listing pattern log tooLongLine
+  judged : {text : List ℕ} → length pattern ≤ longest → length log ≤ longest → Judged pattern log text → Listing pattern log text
+
+-- the listing written at the start of a lent buffer, or 15 where the buffer is shorter than it; a buffer of so many bytes holds every listing
+abbrev pub enough : ℕ
+enough = 1024
+
+pub record ListedIn (pattern log before after : List ℕ) (r : Written) : Type 0 where
+  pub text : List ℕ
+  pub listing : Listing pattern log text
+  pub short : length text ≤ enough
+  pub answer : writtenIs r ≡ writing 0 text before 0
+  pub buffer : after ≡ bufferAfter 0 text before 0

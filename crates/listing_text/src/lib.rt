@@ -1,0 +1,251 @@
+// The listing: a pattern and a log judged, and the verdict as text in a lent buffer.
+use command::Decoded;
+use command::Written;
+use event::Event;
+use event::Operation;
+use height::Metres;
+use session::Judged;
+use session::Outcome;
+ghost use Prim.Native.Nat.{ℕ, _≤_};
+ghost use mathlib.Core.Path.{_≡_};
+ghost use mathlib.Core.Bool.{cond};
+ghost use mathlib.Core.List.{List, [], _++_};
+ghost use lib.ListN.{length, take};
+ghost use Rattle.command.specs.Writing.{writing, writtenIs, bufferAfter};
+ghost use Rattle.listing_text.specs.Text.{ascii, figures as figuresOf, decimal, metresText, heightText, operationText, slotLine, refusalLine, patternRefusalLine, matchLine};
+ghost use Rattle.listing_text.specs.Page.{blank, with, onto, eventFrom, linesOf, textOf};
+ghost use Rattle.listing_text.specs.Listing.{enough as room, Listing, ListedIn};
+
+// The longest pattern or log that is listed, in bytes.
+pub const LONGEST: usize = 65536;
+
+// More than any listing has, in bytes.
+pub const ROOM: usize = 1024;
+
+pub const NO_MATCH: [u8; 9] = *b"no match\n";
+
+// The text under way: its bytes, and how many they are.
+struct Page {
+    bytes: [u8; ROOM],
+    size: usize,
+}
+
+// Writes the listing of a pattern and a log at the start of a lent buffer.
+pub fn write(pattern: &[u8], log: &[u8], buffer: &mut [u8]) -> Written
+    ensures { λ r. ⌜ ListedIn (now (pattern .entry)) (now (log .entry)) (now (buffer .entry)) (now (buffer .exit)) r ⌝ }
+{
+    let page = listing(pattern, log);
+    copy(page, buffer)
+}
+
+fn copy(page: Page, buffer: &mut [u8]) -> Written
+    requires { ⌜ (length (page .bytes) ≡ room) × (page .size ≤ room) ⌝ }
+    ensures answer { λ r. ⌜ writtenIs r ≡ writing 0 (take (page .size) (page .bytes)) (now (buffer .entry)) 0 ⌝ }
+    ensures after { λ r. ⌜ now (buffer .exit) ≡ bufferAfter 0 (take (page .size) (page .bytes)) (now (buffer .entry)) 0 ⌝ }
+{
+    let size = page.size;
+    if buffer.len() < size {
+        return Written::Refused {
+            number: 15,
+            offset: 0,
+        };
+    }
+    for i in 0..size {
+        buffer[i] = page.bytes[i];
+    }
+    Written::Next { at: size }
+}
+
+fn listing(pattern: &[u8], log: &[u8]) -> Page
+    ensures { λ r. ⌜ ((text : List ℕ) × Listing (now (pattern .entry)) (now (log .entry)) text × (length text ≤ room) × (r ≡ onto blank text)) ⌝ }
+{
+    let p = empty();
+    if LONGEST < pattern.len() {
+        return p.text(b"too long\n");
+    }
+    if LONGEST < log.len() {
+        return p.text(b"too long\n");
+    }
+    let judged = session::run(pattern, log);
+    verdict(p, judged, log)
+}
+
+fn verdict(p: Page, judged: Judged, log: &[u8]) -> Page
+    ensures { λ r. ⌜ r ≡ onto p (textOf (now (log .entry)) (judged .outcome) (judged .numbers)) ⌝ }
+{
+    let outcome = judged.outcome;
+    let numbers = judged.numbers;
+    match outcome {
+        Outcome::Match { count } => slot_lines(p.match_line(count), log, numbers),
+        Outcome::None => p.text(&NO_MATCH),
+        Outcome::PatternRefused { number, offset } => p.text(b"pattern ").refusal(number, offset),
+        Outcome::LogRefused { number, offset } => p.refusal(number, offset),
+    }
+}
+
+// The lines of the slots: the event of each number, from the log. A number 0 stands beyond the last slot.
+fn slot_lines(from: Page, log: &[u8], numbers: [u16; event::SLOTS]) -> Page
+    ensures { λ r. ⌜ r ≡ onto from (linesOf (now (log .entry)) 1 numbers) ⌝ }
+{
+    let mut p = from;
+    for j in 0..event::SLOTS {
+        let n = numbers[j];
+        if n == 0 {
+            return p;
+        }
+        let e = event_after(log, n as usize - 1);
+        p = p.slot_line(j + 1, n as usize, e);
+    }
+    p
+}
+
+// The event of the command after the first n.
+fn event_after(log: &[u8], n: usize) -> Event
+    ensures { λ r. ⌜ r ≡ eventFrom n (now (log .entry)) 0 ⌝ }
+{
+    let mut left = n;
+    let mut at: usize = 0;
+    loop {
+        let step = command::decode(log, at, true);
+        let Decoded::Command { event, next } = step else {
+            return Event {
+                thread: 0,
+                operation: Operation::Mark { mark: 0 },
+            };
+        };
+        if left == 0 {
+            return event;
+        }
+        left -= 1;
+        at = next;
+    }
+}
+
+fn empty() -> Page
+    ensures { λ r. ⌜ r ≡ blank ⌝ }
+{
+    Page {
+        bytes: [0; ROOM],
+        size: 0,
+    }
+}
+
+impl Page {
+    // The page with a byte more; a full one stays as it is.
+    fn byte(mut self, b: u8) -> Page
+        ensures { λ r. ⌜ r ≡ with self b ⌝ }
+    {
+        let at = self.size;
+        if at >= ROOM {
+            return self;
+        }
+        self.bytes[at] = b;
+        self.size = at + 1;
+        self
+    }
+
+    fn text(self, s: &[u8]) -> Page
+        ensures { λ r. ⌜ r ≡ onto self (now (s .entry)) ⌝ }
+    {
+        let mut p = self;
+        for i in 0..s.len() {
+            p = p.byte(s[i]);
+        }
+        p
+    }
+
+    fn number(self, n: usize) -> Page
+        ensures { λ r. ⌜ r ≡ onto self (decimal n) ⌝ }
+    {
+        figures(self, n, 20)
+    }
+
+    fn height(self, mm: i32) -> Page
+        ensures { λ r. ⌜ r ≡ onto self (heightText mm) ⌝ }
+    {
+        self.metres(height::in_metres(mm))
+    }
+
+    fn metres(self, m: Metres) -> Page
+        ensures { λ r. ⌜ r ≡ onto self (metresText m) ⌝ }
+    {
+        let p = self.sign(m.below);
+        let q = p.number(m.whole as usize);
+        let r = q.text(b".");
+        r.number(m.tenth as usize)
+    }
+
+    fn sign(self, below: bool) -> Page
+        ensures { λ r. ⌜ r ≡ onto self (cond below (ascii "-") []) ⌝ }
+    {
+        if below {
+            return self.text(b"-");
+        }
+        self
+    }
+
+    fn operation(self, op: Operation) -> Page
+        ensures { λ r. ⌜ r ≡ onto self (operationText op) ⌝ }
+    {
+        match op {
+            Operation::Read { variable } => self.word(b"read ", variable as usize),
+            Operation::Write { variable, height } => self.word(b"write ", variable as usize)
+                .text(b" ")
+                .height(height),
+            Operation::Acquire { lock } => self.word(b"acquire ", lock as usize),
+            Operation::Release { lock } => self.word(b"release ", lock as usize),
+            Operation::Fork { child } => self.word(b"fork ", child as usize),
+            Operation::Join { child } => self.word(b"join ", child as usize),
+            Operation::Mark { mark } => self.word(b"mark ", mark as usize),
+        }
+    }
+
+    // Words, then a number.
+    fn word(self, s: &[u8], n: usize) -> Page
+        ensures { λ r. ⌜ r ≡ onto (onto self (now (s .entry))) (decimal n) ⌝ }
+    {
+        let p = self.text(s);
+        p.number(n)
+    }
+
+    fn slot_line(self, slot: usize, n: usize, e: Event) -> Page
+        ensures { λ r. ⌜ r ≡ onto self (slotLine slot n e) ⌝ }
+    {
+        let a = self.number(slot);
+        let b = a.word(b" event ", n);
+        let c = b.word(b" thread ", e.thread as usize);
+        let d = c.text(b" ");
+        let op = e.operation;
+        let f = d.operation(op);
+        f.text(b"\n")
+    }
+
+    fn match_line(self, count: usize) -> Page
+        ensures { λ r. ⌜ r ≡ onto self (matchLine count) ⌝ }
+    {
+        let p = self.word(b"match at ", count);
+        p.text(b"\n")
+    }
+
+    fn refusal(self, number: u8, offset: usize) -> Page
+        ensures { λ r. ⌜ r ≡ onto self (refusalLine number offset) ⌝ }
+    {
+        let p = self.word(b"refused ", number as usize);
+        let q = p.word(b" at ", offset);
+        q.text(b"\n")
+    }
+}
+
+// The figures of n in decimal, so many at most.
+fn figures(p: Page, n: usize, left: usize) -> Page
+    ensures { λ r. ⌜ r ≡ onto p (figuresOf left n) ⌝ }
+{
+    if left == 0 {
+        return p;
+    }
+    if n < 10 {
+        return p.byte(48 + n as u8);
+    }
+    let q = figures(p, n / 10, left - 1);
+    q.byte(48 + (n % 10) as u8)
+}
