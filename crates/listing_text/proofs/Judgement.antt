@@ -1,12 +1,11 @@
 -- What a run said, as text, is the listing; and a page holds it.
-use Prim.Native.Nat.{ℕ, _+_, _-_, _<_, _≤_}
+use Prim.Native.Nat.{ℕ, _+_}
 use native.Mathlib.Omega.{arith}
 use mathlib.Core.Path.{_≡_, refl, sym, ap, subst, _∙_}
 use mathlib.Core.Bool.{true}
 use mathlib.Core.List.{List, [], _∷_, _++_}
 use lib.ListN.{length, getD, take, drop, take-append-drop}
 use lib.Seq.{getD-drop}
-use borrow.Author.Tests.{eq-eqb, ne-eqb}
 use Rattle.event.specs.declared.Event.{Event}
 use Rattle.event.specs.declared.Slot.{Slot}
 use Rattle.event.specs.Slots.{fits}
@@ -19,7 +18,7 @@ use Rattle.session.specs.declared.Judged.{Judged}
 use Rattle.session.specs.Meaning as meaning
 use Rattle.session.specs.Meaning.{RunOf, pattern-refused, over-log, log-refused, judged}
 use Rattle.listing_text.specs.Text.{slotLine}
-use Rattle.listing_text.specs.Page.{eventFrom, linesOf, textOf}
+use Rattle.listing_text.specs.Page.{linesOf, textOf}
 use Rattle.listing_text.specs.Listing as listing
 use Rattle.listing_text.specs.Listing.{SlotLines}
 use Rattle.listing_text.proofs.Lookup.{numbered-event}

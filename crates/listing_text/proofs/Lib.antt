@@ -4,3 +4,4 @@ pub mod Lookup
 pub mod SlotLines
 pub mod Judgement
 pub mod Lengths
+pub mod Within

@@ -16,7 +16,7 @@ use Rattle.command.specs.declared.Decoded.{Decoded}
 use Rattle.command.specs.declared.Decoded.the-variants.{Command, End, Refused}
 use Rattle.command.specs.Reading.{Reading, command, closed, refused as refusedAt, decode, decodedIs}
 use Rattle.command.proofs.Decoded.{the-type}
-use Rattle.log.specs.Whole.{Whole, accepted, refused, eventThen, logFrom, readLog}
+use Rattle.log.specs.Whole.{accepted, eventThen, logFrom, readLog}
 use Rattle.trace.specs.Before.{Numbered, first, next}
 use Rattle.trace.proofs.Runs.{Among}
 use Rattle.trace.proofs.Numbers.{numbered-among}

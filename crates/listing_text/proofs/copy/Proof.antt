@@ -12,8 +12,6 @@ use native.Mathlib.Omega.{arith}
 use Prim.Native.Nat.{_-_, _≤_}
 use Rattle.listing_text.proofs.copy.Statement.{statement}
 use Rattle.listing_text.proofs.copy.Tie as tie
-use Rattle.listing_text.proofs.copy.Reads as reads
-use Rattle.listing_text.proofs.copy.Lts as lts
 
 abbrev Inv-loop : tie.InvT-loop
 Inv-loop buffer₀ page size i₀ buffer i = (i ≤ page .size) × (size ≡ page .size) × (buffer ≡ paste buffer₀ 0 (page .bytes) i)

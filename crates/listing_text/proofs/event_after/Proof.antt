@@ -6,9 +6,6 @@ use borrow.Author.Needs.{needs}
 use mathlib.Core.Path.{_≡_, refl, sym, ap, _∙_}
 use Rattle.listing_text.proofs.event_after.Statement.{statement}
 use Rattle.listing_text.proofs.event_after.Tie as tie
-use Rattle.listing_text.proofs.event_after.Reads as reads
-use Rattle.listing_text.proofs.event_after.Lts as lts
-use Rattle.command.proofs.decode.Reads as decode-reads
 
 abbrev Inv-loop : tie.InvT-loop
 Inv-loop log n left₀ at₀ left at = eventFrom left log at ≡ eventFrom n log 0

@@ -9,12 +9,6 @@ use native.Mathlib.Omega.{arith}
 use borrow.Author.Needs.{needs}
 use Rattle.listing_text.proofs.listing.Statement.{statement}
 use Rattle.listing_text.proofs.listing.Tie as tie
-use Rattle.listing_text.proofs.listing.Reads as reads
-use Rattle.listing_text.proofs.listing.Lts as lts
-use Rattle.listing_text.proofs.Page.text.Reads as text-reads
-use Rattle.listing_text.proofs.empty.Reads as empty-reads
-use Rattle.listing_text.proofs.verdict.Reads as verdict-reads
-use Rattle.session.proofs.run.Reads as run-reads
 
 empty-requires : tie.Need-empty-requires
 empty-requires c κs = search needs

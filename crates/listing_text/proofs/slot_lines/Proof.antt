@@ -11,10 +11,6 @@ use mathlib.Core.Path.{_≡_}
 use Prim.Native.Nat.{_+_, _-_, _≤_}
 use Rattle.listing_text.proofs.slot_lines.Statement.{statement}
 use Rattle.listing_text.proofs.slot_lines.Tie as tie
-use Rattle.listing_text.proofs.slot_lines.Reads as reads
-use Rattle.listing_text.proofs.slot_lines.Lts as lts
-use Rattle.listing_text.proofs.Page.slot_line.Reads as slot-line-reads
-use Rattle.listing_text.proofs.event_after.Reads as event-after-reads
 
 abbrev Inv-loop : tie.InvT-loop
 Inv-loop log numbers p₀ j₀ p j = (j ≤ 5) × (onto p (linesOf log (j + 1) (drop j numbers)) ≡ onto p₀ (linesOf log 1 numbers))

@@ -2,12 +2,6 @@ use Rattle.listing_text.proofs.Onto.{onward}
 use borrow.Author.Needs.{needs}
 use Rattle.listing_text.proofs.verdict.Statement.{statement}
 use Rattle.listing_text.proofs.verdict.Tie as tie
-use Rattle.listing_text.proofs.verdict.Reads as reads
-use Rattle.listing_text.proofs.verdict.Lts as lts
-use Rattle.listing_text.proofs.Page.match_line.Reads as match-line-reads
-use Rattle.listing_text.proofs.Page.refusal.Reads as refusal-reads
-use Rattle.listing_text.proofs.Page.text.Reads as text-reads
-use Rattle.listing_text.proofs.slot_lines.Reads as slot-lines-reads
 
 enum-known-outcome : tie.Need-enum-known-outcome
 enum-known-outcome c = search needs

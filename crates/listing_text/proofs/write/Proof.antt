@@ -2,10 +2,6 @@ use Rattle.listing_text.proofs.Onto.{holding}
 use borrow.Author.Needs.{needs}
 use Rattle.listing_text.proofs.write.Statement.{statement}
 use Rattle.listing_text.proofs.write.Tie as tie
-use Rattle.listing_text.proofs.write.Reads as reads
-use Rattle.listing_text.proofs.write.Lts as lts
-use Rattle.listing_text.proofs.copy.Reads as copy-reads
-use Rattle.listing_text.proofs.listing.Reads as listing-reads
 
 listing-requires : tie.Need-listing-requires
 listing-requires c κs = search needs

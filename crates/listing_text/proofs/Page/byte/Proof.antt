@@ -3,8 +3,6 @@ use borrow.Author.Tests.{lt-ltb, le-ltb}
 use borrow.Author.Needs.{needs}
 use Rattle.listing_text.proofs.Page.byte.Statement.{statement}
 use Rattle.listing_text.proofs.Page.byte.Tie as tie
-use Rattle.listing_text.proofs.Page.byte.Reads as reads
-use Rattle.listing_text.proofs.Page.byte.Lts as lts
 
 returns : tie.Need-returns
 returns c = rw (le-ltb _ _ (c .if1 .taken)) refl

@@ -1,4 +1,4 @@
-use mathlib.Core.Path.{_≡_, ap, _∙_}
+use mathlib.Core.Path.{ap, _∙_}
 use Rattle.height.specs.declared.Metres.{Metres}
 use Rattle.height.specs.Rounding.{metresOf}
 use Rattle.height.proofs.Tenths.{held-is}
@@ -7,10 +7,6 @@ use Rattle.listing_text.specs.Page.{onto}
 use borrow.Author.Needs.{needs}
 use Rattle.listing_text.proofs.Page.height.Statement.{statement}
 use Rattle.listing_text.proofs.Page.height.Tie as tie
-use Rattle.listing_text.proofs.Page.height.Reads as reads
-use Rattle.listing_text.proofs.Page.height.Lts as lts
-use Rattle.height.proofs.in_metres.Reads as in-metres-reads
-use Rattle.listing_text.proofs.Page.metres.Reads as metres-reads
 
 in-metres-requires : tie.Need-in-metres-requires
 in-metres-requires c κs = search needs

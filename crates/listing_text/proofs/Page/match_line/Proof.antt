@@ -2,10 +2,6 @@ use Rattle.listing_text.proofs.Onto.{onto-append}
 use borrow.Author.Needs.{needs}
 use Rattle.listing_text.proofs.Page.match_line.Statement.{statement}
 use Rattle.listing_text.proofs.Page.match_line.Tie as tie
-use Rattle.listing_text.proofs.Page.match_line.Reads as reads
-use Rattle.listing_text.proofs.Page.match_line.Lts as lts
-use Rattle.listing_text.proofs.Page.text.Reads as text-reads
-use Rattle.listing_text.proofs.Page.word.Reads as word-reads
 
 slice-aggregate-word : tie.Need-slice-aggregate-word
 slice-aggregate-word c = search needs

@@ -2,11 +2,6 @@ use Rattle.listing_text.proofs.Onto.{onto-append}
 use borrow.Author.Needs.{needs}
 use Rattle.listing_text.proofs.Page.metres.Statement.{statement}
 use Rattle.listing_text.proofs.Page.metres.Tie as tie
-use Rattle.listing_text.proofs.Page.metres.Reads as reads
-use Rattle.listing_text.proofs.Page.metres.Lts as lts
-use Rattle.listing_text.proofs.Page.number.Reads as number-reads
-use Rattle.listing_text.proofs.Page.sign.Reads as sign-reads
-use Rattle.listing_text.proofs.Page.text.Reads as text-reads
 
 sign-requires : tie.Need-sign-requires
 sign-requires c κs = search needs

@@ -8,11 +8,6 @@ use Rattle.listing_text.proofs.Onto.{onto-append}
 use borrow.Author.Needs.{needs}
 use Rattle.listing_text.proofs.Page.operation.Statement.{statement}
 use Rattle.listing_text.proofs.Page.operation.Tie as tie
-use Rattle.listing_text.proofs.Page.operation.Reads as reads
-use Rattle.listing_text.proofs.Page.operation.Lts as lts
-use Rattle.listing_text.proofs.Page.height.Reads as height-reads
-use Rattle.listing_text.proofs.Page.text.Reads as text-reads
-use Rattle.listing_text.proofs.Page.word.Reads as word-reads
 
 enum-known-op : tie.Need-enum-known-op
 enum-known-op c = search needs

@@ -2,9 +2,6 @@ use Rattle.listing_text.proofs.Onto.{onto-none}
 use borrow.Author.Needs.{needs}
 use Rattle.listing_text.proofs.Page.sign.Statement.{statement}
 use Rattle.listing_text.proofs.Page.sign.Tie as tie
-use Rattle.listing_text.proofs.Page.sign.Reads as reads
-use Rattle.listing_text.proofs.Page.sign.Lts as lts
-use Rattle.listing_text.proofs.Page.text.Reads as text-reads
 
 slice-aggregate-text : tie.Need-slice-aggregate-text
 slice-aggregate-text c = search needs

@@ -2,12 +2,6 @@ use Rattle.listing_text.proofs.Onto.{onto-append}
 use borrow.Author.Needs.{needs}
 use Rattle.listing_text.proofs.Page.slot_line.Statement.{statement}
 use Rattle.listing_text.proofs.Page.slot_line.Tie as tie
-use Rattle.listing_text.proofs.Page.slot_line.Reads as reads
-use Rattle.listing_text.proofs.Page.slot_line.Lts as lts
-use Rattle.listing_text.proofs.Page.number.Reads as number-reads
-use Rattle.listing_text.proofs.Page.operation.Reads as operation-reads
-use Rattle.listing_text.proofs.Page.text.Reads as text-reads
-use Rattle.listing_text.proofs.Page.word.Reads as word-reads
 
 number-requires : tie.Need-number-requires
 number-requires c κs = search needs

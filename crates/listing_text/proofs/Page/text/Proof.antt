@@ -8,9 +8,6 @@ use borrow.Author.Needs.{needs}
 use Rattle.listing_text.specs.Page.{onto}
 use Rattle.listing_text.proofs.Page.text.Statement.{statement}
 use Rattle.listing_text.proofs.Page.text.Tie as tie
-use Rattle.listing_text.proofs.Page.text.Reads as reads
-use Rattle.listing_text.proofs.Page.text.Lts as lts
-use Rattle.listing_text.proofs.Page.byte.Reads as byte-reads
 
 abbrev Inv-loop : tie.InvT-loop
 Inv-loop s p₀ i₀ i-end p i = (i ≤ i-end) × (p ≡ onto p₀ (take i s))

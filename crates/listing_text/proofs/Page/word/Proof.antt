@@ -1,10 +1,6 @@
 use borrow.Author.Needs.{needs}
 use Rattle.listing_text.proofs.Page.word.Statement.{statement}
 use Rattle.listing_text.proofs.Page.word.Tie as tie
-use Rattle.listing_text.proofs.Page.word.Reads as reads
-use Rattle.listing_text.proofs.Page.word.Lts as lts
-use Rattle.listing_text.proofs.Page.number.Reads as number-reads
-use Rattle.listing_text.proofs.Page.text.Reads as text-reads
 
 text-requires : tie.Need-text-requires
 text-requires c κs = search needs

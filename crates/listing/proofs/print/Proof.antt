@@ -1,0 +1,54 @@
+use Rattle.listing_text.proofs.Within.{within}
+use lib.Seq.{length-take-le}
+use mathlib.Core.Path.{sym}
+use borrow.Author.Needs.{needs}
+use Rattle.listing.proofs.print.Statement.{statement}
+use Rattle.listing.proofs.print.Tie as tie
+
+slice-aggregate-write : tie.Need-slice-aggregate-write
+slice-aggregate-write c = search needs
+
+write-requires : tie.Need-write-requires
+write-requires c κs = search needs
+
+enum-known-written : tie.Need-enum-known-written
+enum-known-written c = search needs
+
+slice-aggregate-print-start : tie.Need-slice-aggregate-print-start
+slice-aggregate-print-start c = search needs
+
+print-start-requires : tie.Need-print-start-requires
+print-start-requires c κs =
+    let w = c .before .before .before .before .before .write in
+    let k = within _ _ _ _ (w .result) (c .before .before .written .given .0 .0) (w .ensures) (c .before .before .written .given .1) in
+    (k, sym (length-take-le (c .before .before .written .given .0 .0) (w .last .1 .1 .0) k))
+
+enum-told : tie.Need-enum-told
+enum-told c = search needs
+
+slice-aggregate-fail : tie.Need-slice-aggregate-fail
+slice-aggregate-fail c = search needs
+
+fail-requires : tie.Need-fail-requires
+fail-requires c κs = search needs
+
+returns : tie.Need-returns
+returns c = search needs
+
+returns-2 : tie.Need-returns-2
+returns-2 c = search needs
+
+pub print-spec : {M : Type 1} → statement M
+print-spec =
+    tie.close
+    (tie.spec
+    slice-aggregate-write
+    write-requires
+    enum-known-written
+    slice-aggregate-print-start
+    print-start-requires
+    enum-told
+    slice-aggregate-fail
+    fail-requires
+    returns
+    returns-2)

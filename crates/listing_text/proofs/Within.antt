@@ -1,0 +1,34 @@
+-- A listing that was written lies within the buffer.
+use Prim.Native.Nat.{ℕ, _+_, _-_, _≤_}
+use native.Mathlib.Omega.{arith}
+use mathlib.Core.Path.{_≡_, refl, sym, ap, _∙_}
+use mathlib.Core.Bool.{true, false}
+use mathlib.Core.List.{List}
+use lib.ListN.{length}
+use borrow.Author.Tests.{leb-true}
+use Rattle.event.proofs.Tests.{by-test}
+use Rattle.command.specs.declared.Written.{Written}
+use Rattle.command.specs.declared.Written.the-variants.{Next}
+use Rattle.command.specs.Writing.{writtenIs, written, refused, hasRoom}
+use Rattle.command.proofs.Buffers.{puts, length-put}
+use Rattle.listing_text.specs.Listing.{ListedIn}
+
+pub within : (pattern log before after : List ℕ) (r : Written) (at : ℕ) → ListedIn pattern log before after r → r ≡ Next at → at ≤ length after
+within pattern log before after r at l q = by-test (hasRoom (l .text) before 0) fits (λ y. absurd (short y))
+  where
+    answered : writtenIs (Next at) ≡ writtenIs r
+    answered = ap writtenIs (sym q)
+
+    fits : hasRoom (l .text) before 0 ≡ true → at ≤ length after
+    fits y =
+        let a : written at ≡ written (0 + length (l .text)) = rw y at (answered ∙ l .answer) in
+        let e : at ≡ 0 + length (l .text) = cc in
+        let m : length (l .text) ≤ length before - 0 = leb-true _ _ y in
+        let n : length after ≡ length before =
+        ap length (l .buffer ∙ puts (l .text) before 0 0 refl (omega arith)) ∙ length-put (l .text) before 0 (omega arith) in
+        omega arith
+
+    short : hasRoom (l .text) before 0 ≡ false → ⊥
+    short y =
+        let a : written at ≡ refused 15 0 = rw y at (answered ∙ l .answer) in
+        let z : _≡_ {A = ℕ} 0 1 = cc in omega arith
