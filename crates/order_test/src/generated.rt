@@ -1,13 +1,9 @@
 // Many small logs drawn by number: each pair of event numbers asked, and the answer compared with the plain computation.
-use crate::long_log;
-use crate::plain;
-use crate::plain::Leading;
 use crate::show;
-use command::Written;
-use event::Event;
-use event::Operation;
 use log::LogRead;
 use order::Order;
+use plain::Leading;
+use plain::drawn;
 
 const LOGS: usize = 100000;
 
@@ -28,12 +24,6 @@ struct Tally {
     disagreements: u64,
 }
 
-// A log under way: the place after it, and the last number drawn.
-struct Draft {
-    at: usize,
-    drawn: u32,
-}
-
 pub(crate) fn run() {
     let mut buffer = [0u8; 64];
     let tally = in_space(&mut buffer);
@@ -44,7 +34,7 @@ fn in_space(buffer: &mut [u8]) -> Tally {
     let mut tally = fresh();
     let mut drawn: u32 = 1;
     for n in 0..LOGS {
-        let made = make(buffer, drawn);
+        let made = drawn::make(buffer, drawn);
         drawn = made.drawn;
         let size = made.at;
         if size <= buffer.len() {
@@ -66,140 +56,6 @@ fn fresh() -> Tally {
         yes: 0,
         chains: 0,
         disagreements: 0,
-    }
-}
-
-// The number drawn after n: the low 32 bits of 1664525 n + 1013904223.
-fn draw(n: u32) -> u32 {
-    ((n as u64 * 1664525 + 1013904223) % 4294967296) as u32
-}
-
-// How a log is drawn: how often an event is drawn anew, whether numbers are the highest, whether there are few threads.
-struct Manner {
-    tries: u32,
-    high: bool,
-    few: bool,
-}
-
-// Writes a log of at most seven events; the place after it, and the last number drawn.
-fn make(buffer: &mut [u8], drawn: u32) -> Draft {
-    let shape = draw(drawn);
-    let manner = Manner {
-        tries: 1 + shape / 2097152 % 8,
-        high: shape / 1048576 % 2 == 1,
-        few: shape / 524288 % 2 == 1,
-    };
-    let d = events(buffer, shape, 1 + shape / 16777216 % 7, manner);
-    let last = d.drawn;
-    let end = close(buffer, d.at, last / 32768 % 32);
-    Draft {
-        at: end,
-        drawn: last,
-    }
-}
-
-fn events(buffer: &mut [u8], drawn: u32, count: u32, manner: Manner) -> Draft {
-    let mut d = Draft { at: 0, drawn };
-    for n in 0..count {
-        d = one_event(buffer, d, manner);
-    }
-    d
-}
-
-// Draws an event until the log takes it, so many times at most.
-fn one_event(buffer: &mut [u8], d: Draft, manner: Manner) -> Draft {
-    let tries = manner.tries;
-    let at = d.at;
-    let mut end = at;
-    let mut drawn = d.drawn;
-    for n in 0..tries {
-        drawn = draw(drawn);
-        end = long_log::place_after(
-            command::write_event(buffer, at, event_of(drawn, manner)),
-            at,
-        );
-        if takes(buffer, end) {
-            return Draft { at: end, drawn };
-        }
-    }
-    Draft { at: end, drawn }
-}
-
-// Whether what stands before `end`, closed, is an accepted log.
-fn takes(buffer: &mut [u8], end: usize) -> bool {
-    command::write_end(buffer, end);
-    if buffer.len() <= end {
-        return false;
-    }
-    let size = end + 1;
-    accepted(log::read_log(&buffer[..size]))
-}
-
-fn accepted(read: LogRead) -> bool {
-    match read {
-        LogRead::Accepted { events: _ } => true,
-        LogRead::LogRefused {
-            number: _,
-            offset: _,
-        } => false,
-    }
-}
-
-// Closes the log by 00; in four ways of 32 not at all, by 08, by 00 00, or by 00 08.
-fn close(buffer: &mut [u8], at: usize, way: u32) -> usize {
-    if 60 < at {
-        return at;
-    }
-    put(buffer, at, if way == 1 { 8 } else { 0 });
-    put(buffer, at + 1, if way == 3 { 8 } else { 0 });
-    match way {
-        0 => at,
-        2..=3 => at + 2,
-        _ => at + 1,
-    }
-}
-
-fn put(buffer: &mut [u8], at: usize, b: u8) {
-    if at < buffer.len() {
-        buffer[at] = b;
-    }
-}
-
-// One of the last numbers below a limit, or one of the first.
-fn near(n: u8, last: u8, high: bool) -> u8 {
-    if high && n <= last {
-        return last - n;
-    }
-    n
-}
-
-// An event of two or four threads over two variables, two locks, four children and four marks.
-fn event_of(drawn: u32, manner: Manner) -> Event {
-    let high = manner.high;
-    let object = (drawn / 1048576 % 4) as u8;
-    let t = (drawn / 4194304 % 4) as u8;
-    let thread = near(if manner.few { t % 2 } else { t }, 7, high);
-    let operation = operation_of(drawn / 16777216 % 16, object, high);
-    Event { thread, operation }
-}
-
-fn operation_of(kind: u32, object: u8, high: bool) -> Operation {
-    let variable = near(object % 2, 31, high);
-    let lock = near(object / 3, 15, high);
-    let child = near(object, 7, high);
-    match kind {
-        0..=1 => Operation::Read { variable },
-        2..=4 => Operation::Write {
-            variable,
-            height: -400,
-        },
-        5..=6 => Operation::Acquire { lock },
-        7..=10 => Operation::Release { lock },
-        11..=12 => Operation::Fork { child },
-        13..=14 => Operation::Join { child },
-        _ => Operation::Mark {
-            mark: object as u16,
-        },
     }
 }
 

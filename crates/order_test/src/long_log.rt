@@ -1,8 +1,8 @@
 // Queries on a log of 65,535 events, the most a log may have, and on one that has an event more.
 use crate::queries;
-use command::Written;
 use event::Event;
 use event::Operation;
+use plain::drawn;
 
 pub(crate) fn run() {
     let mut space = [0u8; 262145];
@@ -68,18 +68,7 @@ fn marks(space: &mut [u8], count: usize) -> usize {
     };
     let mut at: usize = 0;
     for n in 0..count {
-        at = place_after(command::write_event(space, at, mark), at);
+        at = drawn::place_after(command::write_event(space, at, mark), at);
     }
     at
-}
-
-// The next write place; the old one after a refusal.
-pub(crate) fn place_after(w: Written, at: usize) -> usize {
-    match w {
-        Written::Next { at: next } => next,
-        Written::Refused {
-            number: _,
-            offset: _,
-        } => at,
-    }
 }

@@ -1,7 +1,6 @@
 // Prints what the order query answers: named queries a line each, and how many pairs of small logs agree with a plain computation.
 mod generated;
 mod long_log;
-mod plain;
 mod queries;
 mod show;
 

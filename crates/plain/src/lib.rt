@@ -1,4 +1,7 @@
 // The order of a log of at most eight events, computed from document 01's words: dependent pairs, and chains of them rising in the log.
+// Used by test programs only: proved safe, compared and not specified.
+pub mod drawn;
+
 use command::EventRead;
 use event::Event;
 use event::Operation;
@@ -6,19 +9,19 @@ use event::Operation;
 pub const MOST: usize = 8;
 
 // The kinds of events by the byte of their command.
-const READ: u8 = 1;
+pub const READ: u8 = 1;
 
-const WRITE: u8 = 2;
+pub const WRITE: u8 = 2;
 
 pub const ACQUIRE: u8 = 3;
 
-const RELEASE: u8 = 4;
+pub const RELEASE: u8 = 4;
 
 pub const FORK: u8 = 5;
 
 pub const JOIN: u8 = 6;
 
-const MARK: u8 = 7;
+pub const MARK: u8 = 7;
 
 // An event in numbers: the variable, the lock, the child or the mark is its object.
 pub struct Plain {
@@ -59,7 +62,7 @@ fn in_numbers(e: Event) -> Plain {
 }
 
 // The events of a log up to its end, to the first command that is refused, or to the eighth.
-pub(crate) fn read(log: &[u8]) -> Leading {
+pub fn read(log: &[u8]) -> Leading {
     let mut events = [made(0, MARK, 0); MOST];
     let mut at: usize = 0;
     for n in 0..MOST {
@@ -77,7 +80,7 @@ pub(crate) fn read(log: &[u8]) -> Leading {
 }
 
 // Whether one of the events is of the kind.
-pub(crate) fn holds(l: Leading, kind: u8) -> bool {
+pub fn holds(l: Leading, kind: u8) -> bool {
     for n in 0..MOST {
         if n < l.count && l.events[n].kind == kind {
             return true;
@@ -123,7 +126,7 @@ fn names_thread_of(a: Plain, b: Plain) -> bool {
 }
 
 // The four points of document 01's list.
-fn dependent(a: Plain, b: Plain) -> bool {
+pub fn dependent(a: Plain, b: Plain) -> bool {
     if a.thread == b.thread {
         return true;
     }
@@ -137,7 +140,7 @@ fn dependent(a: Plain, b: Plain) -> bool {
 }
 
 // Whether event i comes before event j or is it, at 8 * j + i; both counted from 0.
-pub(crate) fn relation(events: [Plain; MOST]) -> [bool; 64] {
+pub fn relation(events: [Plain; MOST]) -> [bool; 64] {
     let mut before = [false; 64];
     for j in 0..MOST {
         column(&mut before, events, j);
@@ -167,7 +170,7 @@ fn reaches(before: &[bool; 64], events: [Plain; MOST], i: usize, j: usize) -> bo
 }
 
 // The same of two events by their places, counted from 0.
-pub(crate) fn dependent_places(events: [Plain; MOST], i: usize, j: usize) -> bool {
+pub fn dependent_places(events: [Plain; MOST], i: usize, j: usize) -> bool {
     if i < MOST && j < MOST {
         return dependent(events[i], events[j]);
     }
@@ -175,7 +178,7 @@ pub(crate) fn dependent_places(events: [Plain; MOST], i: usize, j: usize) -> boo
 }
 
 // The entry of the relation for events i and j.
-pub(crate) fn at(before: &[bool; 64], i: usize, j: usize) -> bool {
+pub fn at(before: &[bool; 64], i: usize, j: usize) -> bool {
     if i >= MOST {
         return false;
     }

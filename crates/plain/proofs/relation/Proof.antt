@@ -1,8 +1,8 @@
--- `order_test::plain::relation` is safe and ends. The loop counts to eight; what falls is the number of places left.
+-- `plain::relation` is safe and ends. The loop counts to eight; what falls is the number of places left.
 use Prim.Native.Nat.{_-_, _≤_}
 use borrow.Author.Needs.{needs}
-use Rattle.order_test.proofs.plain.relation.Statement.{statement}
-use Rattle.order_test.proofs.plain.relation.Tie as tie
+use Rattle.plain.proofs.relation.Statement.{statement}
+use Rattle.plain.proofs.relation.Tie as tie
 
 abbrev Inv-loop : tie.InvT-loop
 Inv-loop events before₀ j₀ before j = j ≤ 8

@@ -1,8 +1,8 @@
--- `order_test::plain::read` is safe and ends. The loop counts to eight; what falls is the number of places left.
+-- `plain::read` is safe and ends. The loop counts to eight; what falls is the number of places left.
 use Prim.Native.Nat.{_-_, _≤_}
 use borrow.Author.Needs.{needs}
-use Rattle.order_test.proofs.plain.read.Statement.{statement}
-use Rattle.order_test.proofs.plain.read.Tie as tie
+use Rattle.plain.proofs.read.Statement.{statement}
+use Rattle.plain.proofs.read.Tie as tie
 
 abbrev Inv-loop : tie.InvT-loop
 Inv-loop log events₀ at₀ n₀ events at n = n ≤ 8

@@ -1,9 +1,9 @@
--- `order_test::generated::takes` is safe and ends. The part that is read is as long as its size says.
+-- `plain::drawn::takes` is safe and ends. The part that is read is as long as its size says.
 use native.Mathlib.Omega.{arith}
 use lib.ListN.{length-take}
 use borrow.Author.Needs.{needs}
-use Rattle.order_test.proofs.generated.takes.Statement.{statement}
-use Rattle.order_test.proofs.generated.takes.Tie as tie
+use Rattle.plain.proofs.drawn.takes.Statement.{statement}
+use Rattle.plain.proofs.drawn.takes.Tie as tie
 
 write-end-requires : tie.Need-write-end-requires
 write-end-requires c κs = search needs

@@ -1,8 +1,8 @@
--- `order_test::plain::column` is safe and ends. The loop counts to eight; what falls is the number of places left.
+-- `plain::column` is safe and ends. The loop counts to eight; what falls is the number of places left.
 use Prim.Native.Nat.{_-_, _≤_}
 use borrow.Author.Needs.{needs}
-use Rattle.order_test.proofs.plain.column.Statement.{statement}
-use Rattle.order_test.proofs.plain.column.Tie as tie
+use Rattle.plain.proofs.column.Statement.{statement}
+use Rattle.plain.proofs.column.Tie as tie
 
 abbrev Inv-loop : tie.InvT-loop
 Inv-loop before₀ events j i₀ before i = i ≤ 8

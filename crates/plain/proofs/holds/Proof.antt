@@ -1,8 +1,8 @@
--- `order_test::plain::holds` is safe and ends. The loop counts to eight; what falls is the number of places left.
+-- `plain::holds` is safe and ends. The loop counts to eight; what falls is the number of places left.
 use Prim.Native.Nat.{_-_, _≤_}
 use borrow.Author.Needs.{needs}
-use Rattle.order_test.proofs.plain.holds.Statement.{statement}
-use Rattle.order_test.proofs.plain.holds.Tie as tie
+use Rattle.plain.proofs.holds.Statement.{statement}
+use Rattle.plain.proofs.holds.Tie as tie
 
 abbrev Inv-loop : tie.InvT-loop
 Inv-loop kind l n₀ n = n ≤ 8

@@ -1,8 +1,8 @@
--- `order_test::plain::reaches` is safe and ends. The loop counts to eight; what falls is the number of places left.
+-- `plain::reaches` is safe and ends. The loop counts to eight; what falls is the number of places left.
 use Prim.Native.Nat.{_-_, _≤_}
 use borrow.Author.Needs.{needs}
-use Rattle.order_test.proofs.plain.reaches.Statement.{statement}
-use Rattle.order_test.proofs.plain.reaches.Tie as tie
+use Rattle.plain.proofs.reaches.Statement.{statement}
+use Rattle.plain.proofs.reaches.Tie as tie
 
 abbrev Inv-loop : tie.InvT-loop
 Inv-loop before events i j k₀ k = k ≤ 8

@@ -1,0 +1,240 @@
+// Small logs drawn by number.
+// Used by test programs only: proved safe, compared and not specified.
+use command::Written;
+use event::Event;
+use event::Operation;
+use log::LogRead;
+
+// A log under way: the place after it, and the last number drawn.
+pub struct Draft {
+    pub at: usize,
+    pub drawn: u32,
+}
+
+// The number drawn after n: the low 32 bits of 1664525 n + 1013904223.
+pub fn draw(n: u32) -> u32 {
+    ((n as u64 * 1664525 + 1013904223) % 4294967296) as u32
+}
+
+// How a log is drawn: how often an event is drawn anew, whether numbers are the highest, among how many threads, and its mix.
+struct Manner {
+    tries: u32,
+    high: bool,
+    threads: u8,
+    mix: u8,
+}
+
+// Writes a log of at most seven events; the place after it, and the last number drawn.
+pub fn make(buffer: &mut [u8], drawn: u32) -> Draft {
+    let shape = draw(drawn);
+    let manner = Manner {
+        tries: 1 + shape / 2097152 % 8,
+        high: shape / 1048576 % 2 == 1,
+        threads: if shape / 524288 % 2 == 1 { 2 } else { 4 },
+        mix: 0,
+    };
+    let d = events(buffer, shape, 1 + shape / 16777216 % 7, manner);
+    closed(buffer, d)
+}
+
+// The same with four to seven events of one mix: 1 has many reads, 2 many acquires and releases, 3 many forks and joins, each with marks.
+pub fn make_mixed(buffer: &mut [u8], drawn: u32, mix: u8) -> Draft {
+    let shape = draw(drawn);
+    let manner = Manner {
+        tries: 8,
+        high: shape / 1048576 % 2 == 1,
+        threads: threads_of(mix, shape / 524288 % 2 == 1),
+        mix,
+    };
+    let d = events(buffer, shape, 4 + shape / 16777216 % 4, manner);
+    closed(buffer, d)
+}
+
+// Few threads for locks, so that holders come to release.
+fn threads_of(mix: u8, more: bool) -> u8 {
+    if mix == 2 {
+        return if more { 4 } else { 2 };
+    }
+    if more { 8 } else { 4 }
+}
+
+fn closed(buffer: &mut [u8], d: Draft) -> Draft {
+    let last = d.drawn;
+    let end = close(buffer, d.at, last / 32768 % 32);
+    Draft {
+        at: end,
+        drawn: last,
+    }
+}
+
+fn events(buffer: &mut [u8], drawn: u32, count: u32, manner: Manner) -> Draft {
+    let mut d = Draft { at: 0, drawn };
+    for n in 0..count {
+        d = one_event(buffer, d, manner);
+    }
+    d
+}
+
+// Draws an event until the log takes it, so many times at most.
+fn one_event(buffer: &mut [u8], d: Draft, manner: Manner) -> Draft {
+    let tries = manner.tries;
+    let at = d.at;
+    let mut end = at;
+    let mut drawn = d.drawn;
+    for n in 0..tries {
+        drawn = draw(drawn);
+        end = place_after(
+            command::write_event(buffer, at, event_of(drawn, manner)),
+            at,
+        );
+        if takes(buffer, end) {
+            return Draft { at: end, drawn };
+        }
+    }
+    Draft { at: end, drawn }
+}
+
+// Whether what stands before `end`, closed, is an accepted log.
+fn takes(buffer: &mut [u8], end: usize) -> bool {
+    command::write_end(buffer, end);
+    if buffer.len() <= end {
+        return false;
+    }
+    let size = end + 1;
+    accepted(log::read_log(&buffer[..size]))
+}
+
+pub fn accepted(read: LogRead) -> bool {
+    match read {
+        LogRead::Accepted { events: _ } => true,
+        LogRead::LogRefused {
+            number: _,
+            offset: _,
+        } => false,
+    }
+}
+
+// Closes the log by 00; in four ways of 32 not at all, by 08, by 00 00, or by 00 08.
+fn close(buffer: &mut [u8], at: usize, way: u32) -> usize {
+    if 60 < at {
+        return at;
+    }
+    put(buffer, at, if way == 1 { 8 } else { 0 });
+    put(buffer, at + 1, if way == 3 { 8 } else { 0 });
+    match way {
+        0 => at,
+        2..=3 => at + 2,
+        _ => at + 1,
+    }
+}
+
+fn put(buffer: &mut [u8], at: usize, b: u8) {
+    if at < buffer.len() {
+        buffer[at] = b;
+    }
+}
+
+// One of the last numbers below a limit, or one of the first.
+fn near(n: u8, last: u8, high: bool) -> u8 {
+    if high && n <= last {
+        return last - n;
+    }
+    n
+}
+
+// An event over two variables, two locks, four children and four marks.
+fn event_of(drawn: u32, manner: Manner) -> Event {
+    let high = manner.high;
+    let object = (drawn / 1048576 % 4) as u8;
+    let thread = near(thread_of(drawn, manner.threads), 7, high);
+    let kind = drawn / 16777216 % 16;
+    let operation = operation_of(in_mix(kind, manner.mix), object, high);
+    Event { thread, operation }
+}
+
+// One of two, four or eight threads.
+fn thread_of(drawn: u32, threads: u8) -> u8 {
+    match threads {
+        2 => (drawn / 4194304 % 2) as u8,
+        4 => (drawn / 4194304 % 4) as u8,
+        _ => (drawn / 268435456 % 8) as u8,
+    }
+}
+
+// A number for the operation, by one of 16 drawn.
+fn in_mix(kind: u32, mix: u8) -> u32 {
+    match mix {
+        1 => reads(kind),
+        2 => locks(kind),
+        3 => threads(kind),
+        _ => kind,
+    }
+}
+
+fn reads(kind: u32) -> u32 {
+    match kind {
+        0..=3 => 0,
+        4..=6 => kind - 2,
+        7 => 5,
+        8..=9 => 7,
+        10 => 11,
+        11 => 13,
+        _ => 15,
+    }
+}
+
+fn locks(kind: u32) -> u32 {
+    match kind {
+        0..=3 => 5,
+        4..=10 => 7,
+        11 => 0,
+        12 => 2,
+        _ => 15,
+    }
+}
+
+fn threads(kind: u32) -> u32 {
+    match kind {
+        0..=4 => 11,
+        5..=8 => 13,
+        9 => 0,
+        10 => 2,
+        _ => 15,
+    }
+}
+
+// Writes at two heights, as these play no part in order or pattern.
+fn operation_of(kind: u32, object: u8, high: bool) -> Operation {
+    let variable = near(object % 2, 31, high);
+    let lock = near(object / 3, 15, high);
+    let child = near(object, 7, high);
+    match kind {
+        0..=1 => Operation::Read { variable },
+        2 => Operation::Write {
+            variable,
+            height: 2147483647,
+        },
+        3..=4 => Operation::Write {
+            variable,
+            height: -400,
+        },
+        5..=6 => Operation::Acquire { lock },
+        7..=10 => Operation::Release { lock },
+        11..=12 => Operation::Fork { child },
+        13..=14 => Operation::Join { child },
+        _ => Operation::Mark {
+            mark: object as u16,
+        },
+    }
+}
+
+// The next write place; the old one after a refusal.
+pub fn place_after(w: Written, at: usize) -> usize {
+    match w {
+        Written::Next { at: next } => next,
+        Written::Refused {
+            number: _,
+            offset: _,
+        } => at,
+    }
+}
