@@ -1,0 +1,201 @@
+// Patterns of one to five slots drawn by number, most slots being those of the log's own events.
+use crate::orders;
+use event::Slot;
+use event::SlotOperation;
+use plain::Leading;
+use plain::Plain;
+use plain::drawn;
+
+// The slots in numbers, `size` of them, and the last number drawn.
+pub struct Sketch {
+    pub slots: [Plain; 5],
+    pub size: usize,
+    pub drawn: u32,
+}
+
+// Draws slots in the order of their events, and then exchanges two of them up to three times.
+pub(crate) fn draw(l: Leading, from: u32) -> Sketch {
+    let shape = drawn::draw(from);
+    let rising = in_sequence(l, shape);
+    let times = (shape / 1048576 % 4) as usize;
+    mixed(rising, times)
+}
+
+fn in_sequence(l: Leading, shape: u32) -> Sketch {
+    let mut slots = [strange(0); 5];
+    let mut place = (shape / 4194304 % 2) as usize;
+    let mut drawn = shape;
+    for i in 0..5 {
+        drawn = drawn::draw(drawn);
+        slots[i] = slot_from(l, place, drawn);
+        place = next(place, drawn);
+    }
+    Sketch {
+        slots,
+        size: size_of(l.count, shape),
+        drawn,
+    }
+}
+
+// One to five; in one case of four also where the log has fewer events.
+fn size_of(count: usize, shape: u32) -> usize {
+    let size = 1 + (shape / 16777216 % 5) as usize;
+    if count < size && 1 <= count && shape / 524288 % 4 != 0 {
+        return count;
+    }
+    size
+}
+
+// The place of the event for the next slot: sometimes the same again.
+fn next(place: usize, drawn: u32) -> usize {
+    match drawn / 268435456 {
+        0 => place,
+        1..=12 => (place % 8 + 1) % 8,
+        _ => (place % 8 + 2) % 8,
+    }
+}
+
+// The slot of an event; at times one of another operation, or a mark that no log here has.
+fn slot_from(l: Leading, place: usize, drawn: u32) -> Plain {
+    let count = l.count;
+    if count < 1 {
+        return strange(0);
+    }
+    let i = place % count;
+    if i >= plain::MOST {
+        return strange(0);
+    }
+    match drawn / 1048576 % 32 {
+        0 => strange(l.events[i].thread),
+        1 => turned(l.events[i]),
+        _ => l.events[i],
+    }
+}
+
+fn strange(thread: u16) -> Plain {
+    Plain {
+        thread,
+        kind: plain::MARK,
+        object: 65535,
+    }
+}
+
+// The same with the other operation on its variable, lock or child.
+fn turned(a: Plain) -> Plain {
+    Plain {
+        thread: a.thread,
+        kind: other(a.kind),
+        object: a.object,
+    }
+}
+
+fn other(kind: u8) -> u8 {
+    match kind {
+        1 => plain::WRITE,
+        2 => plain::READ,
+        3 => plain::RELEASE,
+        4 => plain::ACQUIRE,
+        5 => plain::JOIN,
+        6 => plain::FORK,
+        _ => plain::MARK,
+    }
+}
+
+fn mixed(k: Sketch, times: usize) -> Sketch {
+    let mut m = k;
+    for n in 0..times {
+        m = exchanged(m);
+    }
+    m
+}
+
+// Two slots drawn by number change places.
+fn exchanged(k: Sketch) -> Sketch {
+    let drawn = drawn::draw(k.drawn);
+    let size = k.size;
+    if size < 1 {
+        return k;
+    }
+    let i = (drawn / 16777216) as usize % size;
+    let j = (drawn / 65536 % 256) as usize % size;
+    let slots = k.slots;
+    Sketch {
+        slots: exchanged_at(slots, i, j),
+        size,
+        drawn,
+    }
+}
+
+fn exchanged_at(slots: [Plain; 5], i: usize, j: usize) -> [Plain; 5] {
+    if 5 <= i {
+        return slots;
+    }
+    if 5 <= j {
+        return slots;
+    }
+    let mut s = slots;
+    s[i] = slots[j];
+    s[j] = slots[i];
+    s
+}
+
+// Whether two of the slots are equal.
+pub(crate) fn repeats(k: Sketch) -> bool {
+    for j in 0..5 {
+        if j < k.size && repeated(k, j) {
+            return true;
+        }
+    }
+    false
+}
+
+// Whether an earlier slot equals slot j.
+fn repeated(k: Sketch, j: usize) -> bool {
+    if 5 <= j {
+        return false;
+    }
+    for i in 0..5 {
+        if i < j && orders::fits(k.slots[i], k.slots[j]) {
+            return true;
+        }
+    }
+    false
+}
+
+// Writes the pattern; the place after it.
+pub(crate) fn write(buffer: &mut [u8], k: Sketch) -> usize {
+    let mut at: usize = 0;
+    for i in 0..5 {
+        at = write_one(buffer, at, k, i);
+    }
+    drawn::place_after(command::write_end(buffer, at), at)
+}
+
+fn write_one(buffer: &mut [u8], at: usize, k: Sketch, i: usize) -> usize {
+    if k.size <= i || 5 <= i {
+        return at;
+    }
+    let slot = slot_of(k.slots[i]);
+    drawn::place_after(command::write_slot(buffer, at, slot), at)
+}
+
+fn slot_of(a: Plain) -> Slot {
+    let operation = operation_of(a.kind, a.object);
+    Slot {
+        thread: (a.thread % 256) as u8,
+        operation,
+    }
+}
+
+fn operation_of(kind: u8, object: u16) -> SlotOperation {
+    let low = (object % 256) as u8;
+    match kind {
+        1 => SlotOperation::Read { variable: low },
+        2 => SlotOperation::Write { variable: low },
+        3 => SlotOperation::Acquire { lock: low },
+        4 => SlotOperation::Release { lock: low },
+        5 => SlotOperation::Fork { child: low },
+        6 => SlotOperation::Join { child: low },
+        _ => SlotOperation::Mark { mark: object },
+    }
+}
