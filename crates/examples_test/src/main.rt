@@ -8,12 +8,19 @@ const SPACE: usize = 65537;
 const NAMES: usize = 64;
 
 fn main() {
+    no_match();
     let count = os::arg_count();
     for n in 1..NAMES {
         if n < count {
             example(n);
         }
     }
+}
+
+// The empty log lists as the constant's nine bytes.
+fn no_match() {
+    io::write_all(1, &listing_text::NO_MATCH);
+    verdict(lists(b"\x07\x00\x01\x00\x00", b"\x00", &listing_text::NO_MATCH));
 }
 
 // The example whose folder is the n-th argument.
@@ -31,7 +38,11 @@ fn compare(folder: &[u8]) {
     let p = read_in(folder, b"/pattern.bin", &mut pattern);
     let l = read_in(folder, b"/log.bin", &mut log);
     let k = read_in(folder, b"/printed", &mut printed);
-    if lists(&pattern[..p], &log[..l], &printed[..k]) {
+    verdict(lists(&pattern[..p], &log[..l], &printed[..k]));
+}
+
+fn verdict(same: bool) {
+    if same {
         io::write_all(1, b": as printed\n");
     } else {
         io::write_all(1, b": NOT AS PRINTED\n");
