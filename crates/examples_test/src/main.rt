@@ -9,6 +9,10 @@ const NAMES: usize = 64;
 
 fn main() {
     no_match();
+    examples();
+}
+
+fn examples() {
     let count = os::arg_count();
     for n in 1..NAMES {
         if n < count {

@@ -1,7 +1,7 @@
 use Prim.Native.Nat.{_-_, _≤_}
 use borrow.Author.Needs.{needs}
-use Rattle.examples_test.proofs.main.Statement.{statement}
-use Rattle.examples_test.proofs.main.Tie as tie
+use Rattle.examples_test.proofs.examples.Statement.{statement}
+use Rattle.examples_test.proofs.examples.Tie as tie
 
 abbrev Inv-loop : tie.InvT-loop
 Inv-loop count n₀ n = n ≤ 64
@@ -30,8 +30,8 @@ loop-again c = search needs
 returns : tie.Need-returns Inv-loop μ-loop
 returns c = search needs
 
-pub main-spec : {M : Type 1} → statement M
-main-spec =
+pub examples-spec : {M : Type 1} → statement M
+examples-spec =
     tie.close
     (tie.spec
     Inv-loop
