@@ -36,10 +36,11 @@ pub data Listing (pattern log : List ℕ) : List ℕ → Type 0 where
   long-log : longest < length log → Listing pattern log tooLongLine
   judged : {text : List ℕ} → length pattern ≤ longest → length log ≤ longest → Judged pattern log text → Listing pattern log text
 
--- the listing written at the start of a lent buffer, or 15 where the buffer is shorter than it; a buffer of so many bytes holds every listing
+-- a buffer of so many bytes holds every listing
 abbrev pub enough : ℕ
 enough = 1024
 
+-- the listing written at the start of a lent buffer; or 15, and the buffer as it was, where it is shorter than the listing
 pub record ListedIn (pattern log before after : List ℕ) (r : Written) : Type 0 where
   pub text : List ℕ
   pub listing : Listing pattern log text

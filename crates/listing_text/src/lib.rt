@@ -9,10 +9,10 @@ use session::Outcome;
 ghost use Prim.Native.Nat.{ℕ, _≤_};
 ghost use mathlib.Core.Path.{_≡_};
 ghost use mathlib.Core.Bool.{cond};
-ghost use mathlib.Core.List.{List, [], _++_};
+ghost use mathlib.Core.List.{List, []};
 ghost use lib.ListN.{length, take};
 ghost use Rattle.command.specs.Writing.{writing, writtenIs, bufferAfter};
-ghost use Rattle.listing_text.specs.Text.{ascii, figures as figuresOf, decimal, metresText, heightText, operationText, slotLine, refusalLine, patternRefusalLine, matchLine};
+ghost use Rattle.listing_text.specs.Text.{ascii, figures as figuresOf, decimal, metresText, heightText, operationText, slotLine, refusalLine, matchLine};
 ghost use Rattle.listing_text.specs.Page.{blank, with, onto, eventFrom, linesOf, textOf};
 ghost use Rattle.listing_text.specs.Listing.{enough as room, Listing, ListedIn};
 
