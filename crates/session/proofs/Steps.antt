@@ -3,7 +3,7 @@ use Prim.Native.Nat.{ℕ, _+_, _-_, _<_}
 use native.Mathlib.Omega.{arith}
 use native.Mathlib.Decide.{decLt}
 use mathlib.Core.Path.{_≡_, sym, ap, _∙_}
-use mathlib.Core.Bool.{Bool, cond}
+use mathlib.Core.Bool.{Bool, false, cond}
 use mathlib.Core.List.{List, [], reverse}
 use lib.Dec.{leb}
 use lib.ListN.{length, getD, replicate, getD-replicate, length-replicate}
@@ -87,6 +87,13 @@ module _ (s : Session) (e : Event) (state : List ℕ) (q : state ≡ stateAfter 
       co ∙ ap (λ (b : Bool). cond b (s .taken + 1) 0) (fo ∙ ap (λ (x : List ℕ). foundIn x (s .pattern .size)) t) in
       rw (eq-eqb (s .count) 0 h)
       (λ i. record { pattern = s .pattern; state = q i; clocks = cl i; table = t i; taken = s .taken + 1; count = c i })
+
+  -- an event that fits no slot moves the clocks alone
+  pub idle-is : (stamp : Stamp) (clocks : List ℕ) → s .count ≡ 0 → stamp ≡ stampBy (s .clocks) e → clocks ≡ clocksAfter (s .clocks) e
+      → offered (s .table) (s .pattern .slots) (s .pattern .size) e stamp (s .taken + 1) ≡ s .table → foundIn (s .table) (s .pattern .size) ≡ false
+      → _≡_ {A = Session} (record { pattern = s .pattern; state = state; clocks = clocks; table = s .table; taken = s .taken + 1; count = s .count }) (advanced s e)
+  idle-is stamp clocks h st cl id none =
+      searched-is stamp clocks (s .table) false (s .count) h st cl (sym id) (sym none) h
 
 pub taken-is : (s after : Session) (e : Event) → refusalBy (s .state) (s .taken) e ≡ 0 → after ≡ advanced s e → _≡_ {A = Handed} (record { answer = Taken; session = after }) (handed s e)
 unfolding handed

@@ -155,6 +155,7 @@ fn run_on(p: Pattern, log: &[u8]) -> Judged
     let mut z = fresh(p);
     let slots = p.slots;
     let size = p.size;
+    let keys = table::keys(slots);
     let mut at: usize = 0;
     loop {
         let step = command::decode(log, at, true);
@@ -176,6 +177,9 @@ fn run_on(p: Pattern, log: &[u8]) -> Judged
             continue;
         }
         let stamp = clock::advance(&mut z.clocks, event);
+        if !table::wants(keys, event) {
+            continue;
+        }
         table::offer(&mut z.table, slots, size, event, stamp, n as u16);
         let found = table::found(&z.table, size);
         z.count = count_if(found, n);

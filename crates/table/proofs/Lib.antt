@@ -8,3 +8,4 @@ pub mod RowHistory
 pub mod History
 pub mod Start
 pub mod Verdict
+pub mod KeyLaws

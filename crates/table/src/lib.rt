@@ -2,18 +2,21 @@
 use clock::Stamp;
 use event::Event;
 use event::Slot;
+use event::SlotOperation;
 ghost use mathlib.Core.Path.{_≡_};
 ghost use mathlib.Core.Logic.{_↔_};
-ghost use mathlib.Core.Bool.{true};
+ghost use mathlib.Core.Bool.{true, false};
 ghost use mathlib.Core.List.{List, [], _∷_, _++_};
 ghost use Prim.Native.Nat.{_+_, _-_, _*_, _^_, _≤_, _<_};
 ghost use lib.ListN.{length};
 ghost use Rattle.event.specs.declared.Event.{Event};
 ghost use Rattle.event.specs.declared.Slot.{Slot};
 ghost use Rattle.event.specs.Limits.{slots as slotLimit};
+ghost use Rattle.event.specs.Slots.{slotOf};
 ghost use Rattle.dependence.specs.Order.{HasMatch};
 ghost use Rattle.table.specs.Sets.{sets, width, size as tableSize};
 ghost use Rattle.table.specs.Table.{put, rowAt, roomIn, limitAt, limitsAfter, joined, setOffered, sweptTo, offered, freshTable, lastRow, foundIn, numbersIn};
+ghost use Rattle.table.specs.Keys.{keyOf, KeysOf, wantsTo, Idle};
 ghost use Rattle.table.specs.Keeps.{Keeps, Follows, Numbers};
 
 // A row has the places of the slots, then their event numbers, and last whether there is a row.
@@ -73,6 +76,53 @@ pub fn fresh() -> [u16; TABLE]
     };
     store(&mut table, 0, none);
     table
+}
+
+// What an event is compared by before its slots are looked at one by one: a number for each slot.
+pub fn keys(slots: [Slot; event::SLOTS]) -> [u32; event::SLOTS]
+    ensures { λ r. ⌜ KeysOf slots r ⌝ }
+{
+    let mut r = [0u32; event::SLOTS];
+    for j in 0..event::SLOTS {
+        let s = slots[j];
+        r[j] = slot_key(s);
+    }
+    r
+}
+
+// Whether the event may fit one of the slots that these keys are of. Offering another changes nothing.
+pub fn wants(keys: [u32; event::SLOTS], e: Event) -> bool
+    ensures exact { λ r. ⌜ r ≡ wantsTo slotLimit keys (keyOf (slotOf e)) ⌝ }
+    ensures idle { λ r. ⌜ ((slots : List Slot) → KeysOf slots keys → r ≡ false → Idle slots e) ⌝ }
+{
+    let k = slot_key(event::slot_of(e));
+    let mut any = false;
+    for j in 0..event::SLOTS {
+        any = any | (keys[j] == k);
+    }
+    any
+}
+
+fn slot_key(s: Slot) -> u32
+    ensures { λ r. ⌜ r ≡ keyOf s ⌝ }
+{
+    let t = s.thread;
+    let op = s.operation;
+    match op {
+        SlotOperation::Read { variable } => key(t, 1, variable as u16),
+        SlotOperation::Write { variable } => key(t, 2, variable as u16),
+        SlotOperation::Acquire { lock } => key(t, 3, lock as u16),
+        SlotOperation::Release { lock } => key(t, 4, lock as u16),
+        SlotOperation::Fork { child } => key(t, 5, child as u16),
+        SlotOperation::Join { child } => key(t, 6, child as u16),
+        SlotOperation::Mark { mark } => key(t, 7, mark),
+    }
+}
+
+fn key(thread: u8, byte: u8, object: u16) -> u32
+    ensures { λ r. ⌜ r ≡ object + 65536 * thread + 16777216 * byte ⌝ }
+{
+    object as u32 + 65536 * (thread as u32) + 16777216 * (byte as u32)
 }
 
 // Takes one event, which has this stamp and number. One of a thread outside the limit, or a pattern of too many slots, leaves the table as it was.

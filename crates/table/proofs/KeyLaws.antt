@@ -1,0 +1,61 @@
+-- An event whose key is none of the slots' fits no slot, and offering it changes nothing.
+-- Assumes nothing.
+use Prim.Native.Nat.{ℕ, zero, suc, _+_, _*_, _<_, _≤_}
+use mathlib.Core.Path.{_≡_, refl, sym, ap, _∙_}
+use mathlib.Core.Bool.{Bool, true, false, _&&_, and-eq-true-iff, false≢true}
+use mathlib.Core.List.{List}
+use native.Mathlib.Decide.{ℕ-discrete}
+use native.Mathlib.Omega.{arith}
+use lib.Dec.{eqb, leb, ltb}
+use lib.ListN.{getD}
+use borrow.Author.Tests.{eq-eqb, eqb-true, leb-true}
+use Rattle.event.specs.declared.Event.{Event}
+use Rattle.event.specs.declared.Slot.{Slot}
+use Rattle.event.specs.Limits.{threads, slots}
+use Rattle.event.specs.Slots.{byteOf, objectOf, withoutHeight, sameOperation, fits, slotOf}
+use Rattle.event.proofs.Tests.{by-test}
+use Rattle.clock.specs.declared.Stamp.{Stamp}
+use Rattle.table.specs.Table.{noSlot, placeBy, slotOffered, offeredDown, offered}
+use Rattle.table.specs.Keys.{keyOf, KeysOf, wantsTo, Idle}
+
+fits-key : (s : Slot) (e : Event) → fits s e ≡ true → keyOf s ≡ keyOf (slotOf e)
+fits-key s e h =
+    let a = and-eq-true-iff (eqb (s .thread) (e .thread)) (sameOperation (s .operation) (e .operation)) .0 h in
+    let b = and-eq-true-iff (eqb (byteOf (s .operation)) (byteOf (withoutHeight (e .operation)))) (eqb (objectOf (s .operation)) (objectOf (withoutHeight (e .operation)))) .0 (a .1) in
+    let t : s .thread ≡ e .thread = eqb-true _ _ (a .0) in
+    let y : byteOf (s .operation) ≡ byteOf (withoutHeight (e .operation)) = eqb-true _ _ (b .0) in
+    let o : objectOf (s .operation) ≡ objectOf (withoutHeight (e .operation)) = eqb-true _ _ (b .1) in
+    omega arith
+
+unwanted : (n : ℕ) (keys : List ℕ) (k : ℕ) → wantsTo n keys k ≡ false → (j : ℕ) → j < n → getD keys j 0 ≡ k → ⊥
+unfolding wantsTo
+unwanted zero keys k h j l q = omega arith
+unwanted (suc n) keys k h j l q =
+    by-test (wantsTo n keys k)
+    (λ y. false≢true (sym (rw y at h)))
+    (λ y. go (ℕ-discrete j n) (unwanted n keys k y) (rw y at h))
+  where
+    go : Dec (j ≡ n) → ((j : ℕ) → j < n → getD keys j 0 ≡ k → ⊥) → eqb (getD keys n 0) k ≡ false → ⊥
+    go (yes p) ih y = false≢true (sym y ∙ eq-eqb (getD keys n 0) k (rw p at q))
+    go (no d) ih y = ih j (omega arith) q
+
+-- slots that the event does not fit
+module _ (pattern : List Slot) (e : Event) (none : (j : ℕ) → j < slots → fits (getD pattern j noSlot) e ≡ false) where
+  still : (k n : ℕ) (table : List ℕ) (stamp : Stamp) (number : ℕ) → k ≤ slots → offeredDown k table pattern n e stamp number ≡ table
+  unfolding offeredDown slotOffered
+  still zero n table stamp number l = refl
+  still (suc k) n table stamp number l = rw (none k (omega arith)) (still k n table stamp number (omega arith))
+
+  idle : Idle pattern e
+  unfolding offered
+  idle table n stamp number =
+      by-test (ltb (e .thread) threads)
+      (λ q. by-test (leb n slots) (λ r. rw (q, r) (still n n table stamp number (leb-true n slots r))) (λ r. rw (q, r) refl))
+      (λ q. rw q refl)
+
+pub unwanted-idle : (pattern : List Slot) (keys : List ℕ) (e : Event) → KeysOf pattern keys → wantsTo slots keys (keyOf (slotOf e)) ≡ false → Idle pattern e
+unwanted-idle pattern keys e h w =
+    idle pattern e (λ j l.
+    by-test (fits (getD pattern j noSlot) e)
+    (λ q. absurd (unwanted slots keys (keyOf (slotOf e)) w j l (h .each j l ∙ fits-key (getD pattern j noSlot) e q)))
+    (λ q. q))

@@ -1,0 +1,31 @@
+-- A number for each slot, equal to that of every event that fits it, by which an event is told at once to fit none.
+-- Assumes nothing.
+use Prim.Native.Nat.{ℕ, zero, suc, _+_, _*_, _<_}
+use mathlib.Core.Path.{_≡_}
+use mathlib.Core.Bool.{Bool, false, _||_}
+use mathlib.Core.List.{List}
+use lib.Dec.{eqb}
+use lib.ListN.{length, getD}
+use Rattle.event.specs.declared.Event.{Event}
+use Rattle.event.specs.declared.Slot.{Slot}
+use Rattle.event.specs.Limits.{slots}
+use Rattle.event.specs.Slots.{byteOf, objectOf}
+use Rattle.clock.specs.declared.Stamp.{Stamp}
+use Rattle.table.specs.Table.{noSlot, offered}
+
+-- operation, thread and object in one number
+abbrev pub keyOf : Slot → ℕ
+keyOf s = objectOf (s .operation) + 65536 * s .thread + 16777216 * byteOf (s .operation)
+
+pub record KeysOf (pattern : List Slot) (keys : List ℕ) : Type 0 where
+  pub whole : length keys ≡ slots
+  pub each : (j : ℕ) → j < slots → getD keys j 0 ≡ keyOf (getD pattern j noSlot)
+
+-- one of the first n keys is k
+unfoldable pub wantsTo : ℕ → List ℕ → ℕ → Bool
+wantsTo zero keys k = false
+wantsTo (suc n) keys k = wantsTo n keys k || eqb (getD keys n 0) k
+
+-- offering the event changes no table
+abbrev pub Idle : List Slot → Event → Type 0
+Idle pattern e = (table : List ℕ) (n : ℕ) (stamp : Stamp) (number : ℕ) → offered table pattern n e stamp number ≡ table
