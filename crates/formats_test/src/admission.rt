@@ -15,9 +15,9 @@ pub(crate) fn run() {
 // Hands over one event, the number of events taken before it given.
 fn admit(state: &mut [u8; rules::STATE], taken: usize, e: Event) {
     let before = *state;
-    show::text(b"admit after ");
-    show::number(taken as u64);
-    show::text(b", ");
+    console::text(b"admit after ");
+    console::number(taken as u64);
+    console::text(b", ");
     show::event(e);
     let k = rules::admit(state, taken, e);
     answer(k, &before, state);
@@ -25,16 +25,16 @@ fn admit(state: &mut [u8; rules::STATE], taken: usize, e: Event) {
 
 fn answer(k: u8, before: &[u8; rules::STATE], after: &[u8; rules::STATE]) {
     if k == 0 {
-        show::text(b": taken\n");
+        console::text(b": taken\n");
         return;
     }
-    show::text(b": refused ");
-    show::number(k as u64);
+    console::text(b": refused ");
+    console::number(k as u64);
     if buffers::same(before, after) {
-        show::text(b", state unchanged\n");
+        console::text(b", state unchanged\n");
         return;
     }
-    show::text(b", STATE CHANGED\n");
+    console::text(b", STATE CHANGED\n");
 }
 
 fn range_before_limit() {

@@ -28,12 +28,12 @@ pub(crate) fn print(reader: Reader, name: &[u8], bytes: &[u8]) {
         Reader::PatternTrip => round_trips::pattern(name, bytes),
         Reader::LogTrip => round_trips::log(name, bytes),
     }
-    show::text(b"\n");
+    console::text(b"\n");
 }
 
 fn pattern(name: &[u8], bytes: &[u8]) {
-    show::text(b"pattern, ");
-    show::text(name);
+    console::text(b"pattern, ");
+    console::text(name);
     let read = log::read_pattern(bytes);
     let answer = read.answer;
     pattern_answer(answer);
@@ -42,28 +42,28 @@ fn pattern(name: &[u8], bytes: &[u8]) {
 fn pattern_answer(answer: PatternAnswer) {
     match answer {
         PatternAnswer::Accepted { slots } => {
-            show::text(b": ");
-            show::number(slots as u64);
-            show::text(b" slots");
+            console::text(b": ");
+            console::number(slots as u64);
+            console::text(b" slots");
         }
         PatternAnswer::PatternRefused { number, offset } => {
-            show::text(b": pattern ");
-            show::refusal(number, offset);
+            console::text(b": pattern ");
+            console::refusal(number, offset);
         }
     }
 }
 
 // The answer, and the pattern that comes with it: its size and its five places.
 fn kept_slots(name: &[u8], bytes: &[u8]) {
-    show::text(b"kept slots, ");
-    show::text(name);
+    console::text(b"kept slots, ");
+    console::text(name);
     let read = log::read_pattern(bytes);
     let answer = read.answer;
     pattern_answer(answer);
     let kept = read.pattern;
     let slots = kept.slots;
-    show::text(b", size ");
-    show::number(kept.size as u64);
+    console::text(b", size ");
+    console::number(kept.size as u64);
     next_slot(slots[0]);
     next_slot(slots[1]);
     next_slot(slots[2]);
@@ -72,20 +72,20 @@ fn kept_slots(name: &[u8], bytes: &[u8]) {
 }
 
 fn next_slot(s: Slot) {
-    show::text(b"; ");
+    console::text(b"; ");
     show::slot(s);
 }
 
 fn log(name: &[u8], bytes: &[u8]) {
-    show::text(b"log, ");
-    show::text(name);
-    show::text(b": ");
+    console::text(b"log, ");
+    console::text(name);
+    console::text(b": ");
     match log::read_log(bytes) {
         LogRead::Accepted { events } => {
-            show::number(events as u64);
-            show::text(b" events");
+            console::number(events as u64);
+            console::text(b" events");
         }
-        LogRead::LogRefused { number, offset } => show::refusal(number, offset),
+        LogRead::LogRefused { number, offset } => console::refusal(number, offset),
     }
 }
 
@@ -96,8 +96,8 @@ fn event_at(place: usize, name: &[u8], bytes: &[u8]) {
             show::event(event);
             next_at(next);
         }
-        EventRead::End => show::text(b"end"),
-        EventRead::LogRefused { number, offset } => show::refusal(number, offset),
+        EventRead::End => console::text(b"end"),
+        EventRead::LogRefused { number, offset } => console::refusal(number, offset),
     }
 }
 
@@ -108,23 +108,23 @@ fn slot_at(place: usize, name: &[u8], bytes: &[u8]) {
             show::slot(slot);
             next_at(next);
         }
-        SlotRead::End => show::text(b"end"),
+        SlotRead::End => console::text(b"end"),
         SlotRead::PatternRefused { number, offset } => {
-            show::text(b"pattern ");
-            show::refusal(number, offset);
+            console::text(b"pattern ");
+            console::refusal(number, offset);
         }
     }
 }
 
 fn at_place(what: &[u8], place: usize, name: &[u8]) {
-    show::text(what);
-    show::number(place as u64);
-    show::text(b", ");
-    show::text(name);
-    show::text(b": ");
+    console::text(what);
+    console::number(place as u64);
+    console::text(b", ");
+    console::text(name);
+    console::text(b": ");
 }
 
 fn next_at(next: usize) {
-    show::text(b", next ");
-    show::number(next as u64);
+    console::text(b", next ");
+    console::number(next as u64);
 }

@@ -3,6 +3,7 @@ use crate::answers::Reader;
 use crate::buffers;
 use crate::made;
 use crate::vectors;
+use plain::marks;
 
 pub(crate) fn run() {
     let mut log = [0u8; 262160];
@@ -17,7 +18,7 @@ fn in_space(log: &mut [u8]) {
 
 // 65,535 marks take 262,140 bytes.
 fn after_marks(log: &mut [u8]) {
-    let at = marks(log, 0, 65535);
+    let at = marks::write(log, 0, 65535);
     vectors::read_after(
         Reader::Log,
         b"\
@@ -43,7 +44,7 @@ fn after_marks(log: &mut [u8]) {
 // A join and 65,534 marks take 262,139 bytes.
 fn after_a_join(log: &mut [u8]) {
     let at = buffers::next_place(command::write_event(log, 0, made::join(0, 1)));
-    let near = marks(log, at, 65533);
+    let near = marks::write(log, at, 65533);
     vectors::read_after(
         Reader::Log,
         b"\
@@ -53,7 +54,7 @@ fn after_a_join(log: &mut [u8]) {
         log,
         near,
     );
-    let full = marks(log, near, 1);
+    let full = marks::write(log, near, 1);
     vectors::read_after(
         Reader::Log,
         b"\
@@ -70,7 +71,7 @@ fn after_a_join(log: &mut [u8]) {
 
 fn after_an_acquire(log: &mut [u8]) {
     let at = buffers::next_place(command::write_event(log, 0, made::acquire(0, 2)));
-    let full = marks(log, at, 65534);
+    let full = marks::write(log, at, 65534);
     vectors::read_after(
         Reader::Log,
         b"\
@@ -80,14 +81,4 @@ fn after_an_acquire(log: &mut [u8]) {
         log,
         full,
     );
-}
-
-// Writes `count` marks of thread 0 from `at` on, and answers the place after them.
-fn marks(log: &mut [u8], at: usize, count: usize) -> usize {
-    let mark = made::mark(0, 0);
-    let mut place = at;
-    for n in 0..count {
-        place = buffers::next_place(command::write_event(log, place, mark));
-    }
-    place
 }

@@ -12,23 +12,23 @@ pub(crate) fn run() {
 }
 
 fn fit(s: Slot, e: Event) {
-    show::text(b"slot ");
+    console::text(b"slot ");
     show::slot(s);
-    show::text(b", event ");
+    console::text(b", event ");
     show::event(e);
     if event::fit(s, e) {
-        show::text(b": fits\n");
+        console::text(b": fits\n");
         return;
     }
-    show::text(b": does not fit\n");
+    console::text(b": does not fit\n");
 }
 
 fn slot_of(e: Event) {
-    show::text(b"slot of ");
+    console::text(b"slot of ");
     show::event(e);
-    show::text(b": ");
+    console::text(b": ");
     show::slot(event::slot_of(e));
-    show::text(b"\n");
+    console::text(b"\n");
 }
 
 fn same() {

@@ -20,16 +20,16 @@ pub(crate) fn run() {
 pub(crate) fn log(name: &[u8], bytes: &[u8]) {
     let mut copy = [0xEEu8; 64];
     let n = copy_log(bytes, &mut copy);
-    show::text(b"round trip of a log, ");
-    show::text(name);
+    console::text(b"round trip of a log, ");
+    console::text(name);
     compare(&copy, n, bytes);
 }
 
 pub(crate) fn pattern(name: &[u8], bytes: &[u8]) {
     let mut copy = [0xEEu8; 64];
     let n = copy_pattern(bytes, &mut copy);
-    show::text(b"round trip of a pattern, ");
-    show::text(name);
+    console::text(b"round trip of a pattern, ");
+    console::text(name);
     compare(&copy, n, bytes);
 }
 
@@ -63,16 +63,16 @@ fn copy_pattern(pattern: &[u8], copy: &mut [u8]) -> usize {
 }
 
 fn compare(copy: &[u8], n: usize, bytes: &[u8]) {
-    show::text(b", ");
-    show::number(bytes.len() as u64);
-    show::text(b" bytes: ");
+    console::text(b", ");
+    console::number(bytes.len() as u64);
+    console::text(b" bytes: ");
     if n <= copy.len() {
         if buffers::same(&copy[..n], bytes) {
-            show::text(b"same bytes");
+            console::text(b"same bytes");
             return;
         }
     }
-    show::text(b"OTHER BYTES");
+    console::text(b"OTHER BYTES");
 }
 
 fn logs() {
@@ -107,51 +107,51 @@ fn patterns() {
 fn event_back(e: Event) {
     let mut buffer = [0xEEu8; 9];
     let to = buffers::next_place(command::write_event(&mut buffer, 1, e));
-    show::text(b"written and read, ");
+    console::text(b"written and read, ");
     show::event(e);
-    show::text(b":");
-    show::bytes(&buffer);
-    show::text(b": ");
+    console::text(b":");
+    console::bytes(&buffer);
+    console::text(b": ");
     match command::read_event(&buffer, 1) {
         EventRead::Event { event, next } => {
             show::event(event);
             places_agree(to, next);
         }
-        EventRead::End => show::text(b"NOT READ\n"),
+        EventRead::End => console::text(b"NOT READ\n"),
         EventRead::LogRefused {
             number: _,
             offset: _,
-        } => show::text(b"NOT READ\n"),
+        } => console::text(b"NOT READ\n"),
     }
 }
 
 fn slot_back(s: Slot) {
     let mut buffer = [0xEEu8; 9];
     let to = buffers::next_place(command::write_slot(&mut buffer, 1, s));
-    show::text(b"written and read, slot ");
+    console::text(b"written and read, slot ");
     show::slot(s);
-    show::text(b":");
-    show::bytes(&buffer);
-    show::text(b": ");
+    console::text(b":");
+    console::bytes(&buffer);
+    console::text(b": ");
     match command::read_slot(&buffer, 1) {
         SlotRead::Slot { slot, next } => {
             show::slot(slot);
             places_agree(to, next);
         }
-        SlotRead::End => show::text(b"NOT READ\n"),
+        SlotRead::End => console::text(b"NOT READ\n"),
         SlotRead::PatternRefused {
             number: _,
             offset: _,
-        } => show::text(b"NOT READ\n"),
+        } => console::text(b"NOT READ\n"),
     }
 }
 
 fn places_agree(written: usize, read: usize) {
     if written == read {
-        show::text(b", next place agrees\n");
+        console::text(b", next place agrees\n");
         return;
     }
-    show::text(b", OTHER NEXT PLACE\n");
+    console::text(b", OTHER NEXT PLACE\n");
 }
 
 fn events() {
@@ -185,8 +185,8 @@ fn whole_example() {
     let mark = buffers::next_place(command::write_event(&mut log, 0, made::mark(1, 11)));
     let write = buffers::next_place(command::write_event(&mut log, mark, made::write(0, 0, -400)));
     command::write_end(&mut log, write);
-    show::text(b"log of the whole example:");
-    show::bytes(&log);
+    console::text(b"log of the whole example:");
+    console::bytes(&log);
     let mut pattern = [0xEEu8; 10];
     let first = buffers::next_place(command::write_slot(&mut pattern, 0, made::write_slot(0, 0)));
     let second = buffers::next_place(command::write_slot(
@@ -195,7 +195,7 @@ fn whole_example() {
         made::mark_slot(1, 11),
     ));
     command::write_end(&mut pattern, second);
-    show::text(b"\npattern of the whole example:");
-    show::bytes(&pattern);
-    show::text(b"\n");
+    console::text(b"\npattern of the whole example:");
+    console::bytes(&pattern);
+    console::text(b"\n");
 }

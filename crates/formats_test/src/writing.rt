@@ -25,7 +25,7 @@ fn event(room: usize, at: usize, e: Event)
     requires { ⌜ room ≤ 10 ⌝ }
 {
     let mut buffer = [0xEEu8; 10];
-    show::text(b"write ");
+    console::text(b"write ");
     show::event(e);
     place(room, at);
     let w = command::write_event(&mut buffer[..room], at, e);
@@ -36,7 +36,7 @@ fn slot(room: usize, at: usize, s: Slot)
     requires { ⌜ room ≤ 10 ⌝ }
 {
     let mut buffer = [0xEEu8; 10];
-    show::text(b"write slot ");
+    console::text(b"write slot ");
     show::slot(s);
     place(room, at);
     let w = command::write_slot(&mut buffer[..room], at, s);
@@ -47,27 +47,27 @@ fn end(room: usize, at: usize)
     requires { ⌜ room ≤ 10 ⌝ }
 {
     let mut buffer = [0xEEu8; 10];
-    show::text(b"write closing 00");
+    console::text(b"write closing 00");
     place(room, at);
     let w = command::write_end(&mut buffer[..room], at);
     answer(w, &buffer);
 }
 
 fn place(room: usize, at: usize) {
-    show::text(b" at ");
-    show::number(at as u64);
-    show::text(b" of ");
-    show::number(room as u64);
-    show::text(b": ");
+    console::text(b" at ");
+    console::number(at as u64);
+    console::text(b" of ");
+    console::number(room as u64);
+    console::text(b": ");
 }
 
 fn answer(w: Written, buffer: &[u8; 10]) {
     match w {
         Written::Next { at } => {
-            show::text(b"next ");
-            show::number(at as u64);
+            console::text(b"next ");
+            console::number(at as u64);
         }
-        Written::Refused { number, offset } => show::refusal(number, offset),
+        Written::Refused { number, offset } => console::refusal(number, offset),
     }
     after(buffer);
 }
@@ -75,12 +75,12 @@ fn answer(w: Written, buffer: &[u8; 10]) {
 fn after(buffer: &[u8; 10]) {
     let fresh = [0xEEu8; 10];
     if buffers::same(buffer, &fresh) {
-        show::text(b", buffer unchanged\n");
+        console::text(b", buffer unchanged\n");
         return;
     }
-    show::text(b", buffer");
-    show::bytes(buffer);
-    show::text(b"\n");
+    console::text(b", buffer");
+    console::bytes(buffer);
+    console::text(b"\n");
 }
 
 fn every_event() {

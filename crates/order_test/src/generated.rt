@@ -158,12 +158,12 @@ fn pair(log: &[u8], e: Expected, first: usize, second: usize, tally: Tally) -> T
 }
 
 fn disagreement(log: &[u8], first: usize, second: usize, answer: Order) {
-    show::text(b"DISAGREEMENT on");
-    show::bytes(log);
-    show::text(b", ");
+    console::text(b"DISAGREEMENT on");
+    console::bytes(log);
+    console::text(b", ");
     show::numbers(first, second);
     show::answer(answer);
-    show::text(b"\n");
+    console::text(b"\n");
 }
 
 fn same(a: Order, b: Order) -> bool {
@@ -256,18 +256,18 @@ impl Tally {
     }
 
     fn print_logs(self) {
-        show::count(b"logs", self.logs);
-        show::count(b"accepted", self.accepted);
-        show::count(b"accepted with a fork", self.forks);
-        show::count(b"accepted with a join", self.joins);
-        show::count(b"accepted with an acquire", self.locks);
-        show::count(b"refused", self.refused);
+        console::count(b"logs", self.logs);
+        console::count(b"accepted", self.accepted);
+        console::count(b"accepted with a fork", self.forks);
+        console::count(b"accepted with a join", self.joins);
+        console::count(b"accepted with an acquire", self.locks);
+        console::count(b"refused", self.refused);
     }
 
     fn print_pairs(self) {
-        show::count(b"pairs asked", self.pairs);
-        show::count(b"yes", self.yes);
-        show::count(b"yes without being dependent", self.chains);
-        show::count(b"disagreements", self.disagreements);
+        console::count(b"pairs asked", self.pairs);
+        console::count(b"yes", self.yes);
+        console::count(b"yes without being dependent", self.chains);
+        console::count(b"disagreements", self.disagreements);
     }
 }

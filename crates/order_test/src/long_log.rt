@@ -1,8 +1,6 @@
 // Queries on a log of 65,535 events, the most a log may have, and on one that has an event more.
 use crate::queries;
-use event::Event;
-use event::Operation;
-use plain::drawn;
+use plain::marks;
 
 pub(crate) fn run() {
     let mut space = [0u8; 262145];
@@ -10,10 +8,10 @@ pub(crate) fn run() {
 }
 
 fn in_space(space: &mut [u8]) {
-    let full = marks(space, 65535);
+    let full = marks::write(space, 0, 65535);
     command::write_end(space, full);
     most_events(space, full);
-    let over = marks(space, 65536);
+    let over = marks::write(space, 0, 65536);
     command::write_end(space, over);
     ask(b"65,536 marks, 1 before 2", space, over, 1, 2);
 }
@@ -58,17 +56,4 @@ fn ask(name: &[u8], space: &[u8], end: usize, first: usize, second: usize) {
     }
     let size = end + 1;
     queries::ask(name, &space[..size], first, second);
-}
-
-// Writes `count` marks of thread 0, and answers the place after them.
-fn marks(space: &mut [u8], count: usize) -> usize {
-    let mark = Event {
-        thread: 0,
-        operation: Operation::Mark { mark: 5 },
-    };
-    let mut at: usize = 0;
-    for n in 0..count {
-        at = drawn::place_after(command::write_event(space, at, mark), at);
-    }
-    at
 }

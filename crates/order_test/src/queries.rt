@@ -1,8 +1,6 @@
 // Named queries as text, a line for each: its name, which ends in the two event numbers, a colon, and the log's bytes in hexadecimal.
 use crate::show;
-ghost use Prim.Native.Nat.{_<_, _≤_};
-ghost use lib.ListN.{length};
-ghost use Rattle.io.specs.Counts.{Counts};
+use console::spelled;
 
 pub(crate) fn run() {
     forks_and_joins();
@@ -203,10 +201,10 @@ fn refused_by_event_rules() {
 
 // Asks one query, and prints its name and the answer.
 pub(crate) fn ask(name: &[u8], log: &[u8], first: usize, second: usize) {
-    show::text(name);
-    show::text(b": ");
+    console::text(name);
+    console::text(b": ");
     show::answer(order::query(log, first, second));
-    show::text(b"\n");
+    console::text(b"\n");
 }
 
 // Asks the query of each line.
@@ -218,9 +216,9 @@ fn ask_all(lines: &[u8]) {
 fn ask_in(lines: &[u8], space: &mut [u8]) {
     let mut at: usize = 0;
     while at < lines.len() {
-        let colon = find(lines, at, b':');
-        let end = find(lines, colon, b'\n');
-        let n = put_bytes(&lines[colon..end], space);
+        let colon = spelled::find(lines, at, b':');
+        let end = spelled::find(lines, colon, b'\n');
+        let n = spelled::put_bytes(&lines[colon..end], space, 0);
         let name = &lines[at..colon];
         ask(name, &space[..n], number_at(name, 10), number_at(name, 1));
         at = end + 1;
@@ -235,45 +233,5 @@ fn number_at(s: &[u8], from_end: usize) -> usize {
     if s.len() < from_end {
         return 0;
     }
-    value(s[s.len() - from_end]) as usize
-}
-
-// The first place from `from` on that holds `b`, or the length.
-fn find(s: &[u8], from: usize, b: u8) -> usize
-    requires { ⌜ from ≤ length (now s) ⌝ }
-    ensures { λ r. ⌜ (from ≤ r) × (r ≤ length (now (s .entry))) ⌝ }
-{
-    for i in from..s.len() {
-        if s[i] == b {
-            return i;
-        }
-    }
-    s.len()
-}
-
-// Puts the bytes that a colon and hexadecimal digits spell into `out`, and answers how many they are.
-fn put_bytes(hex: &[u8], out: &mut [u8]) -> usize
-    ensures { λ r. ⌜ Counts r (now (out .exit)) ⌝ }
-{
-    let mut n: usize = 0;
-    let mut low: usize = 3;
-    while n < out.len() {
-        if hex.len() <= low {
-            return n;
-        }
-        out[n] = 16 * value(hex[low - 1]) + value(hex[low]);
-        n += 1;
-        low += 3;
-    }
-    n
-}
-
-fn value(digit: u8) -> u8
-    ensures { λ r. ⌜ r < 16 ⌝ }
-{
-    match digit {
-        b'0'..=b'9' => digit - 48,
-        b'A'..=b'F' => digit - 55,
-        _ => 0,
-    }
+    spelled::value(s[s.len() - from_end]) as usize
 }

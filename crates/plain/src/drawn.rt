@@ -4,6 +4,8 @@ use command::Written;
 use event::Event;
 use event::Operation;
 use log::LogRead;
+ghost use mathlib.Core.Path.{_≡_};
+ghost use Prim.Native.Nat.{_+_, _*_, _%_};
 
 // A log under way: the place after it, and the last number drawn.
 pub struct Draft {
@@ -12,7 +14,9 @@ pub struct Draft {
 }
 
 // The number drawn after n: the low 32 bits of 1664525 n + 1013904223.
-pub fn draw(n: u32) -> u32 {
+pub fn draw(n: u32) -> u32
+    ensures { λ r. ⌜ r ≡ (n * 1664525 + 1013904223) % 4294967296 ⌝ }
+{
     ((n as u64 * 1664525 + 1013904223) % 4294967296) as u32
 }
 

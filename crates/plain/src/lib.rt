@@ -1,10 +1,12 @@
 // The order of a log of at most eight events, computed from document 01's words: dependent pairs, and chains of them rising in the log.
 // Used by test programs only: proved safe, compared and not specified.
 pub mod drawn;
+pub mod marks;
 
 use command::EventRead;
 use event::Event;
 use event::Operation;
+ghost use Prim.Native.Nat.{_≤_};
 
 pub const MOST: usize = 8;
 
@@ -62,7 +64,9 @@ fn in_numbers(e: Event) -> Plain {
 }
 
 // The events of a log up to its end, to the first command that is refused, or to the eighth.
-pub fn read(log: &[u8]) -> Leading {
+pub fn read(log: &[u8]) -> Leading
+    ensures { λ r. ⌜ r .count ≤ 8 ⌝ }
+{
     let mut events = [made(0, MARK, 0); MOST];
     let mut at: usize = 0;
     for n in 0..MOST {

@@ -1,19 +1,18 @@
 // Lists whose orders are counted without a search: seven marks, shared out among threads.
 use crate::orders;
 use crate::orders::Question;
-use crate::show;
 use plain::MOST;
 use plain::Plain;
 
 // The counts are 1; 7! / (4! 3!) = 35; 7! / (3! 2! 2!) = 210; 7! = 5040.
 pub(crate) fn run(queue: &mut [u32], seen: &mut [bool]) {
-    show::count(
+    console::count(
         b"orders of seven marks by one thread",
         orders_of(queue, seen, 1),
     );
-    show::count(b"by two threads", orders_of(queue, seen, 2));
-    show::count(b"by three threads", orders_of(queue, seen, 3));
-    show::count(b"by seven threads", orders_of(queue, seen, 7));
+    console::count(b"by two threads", orders_of(queue, seen, 2));
+    console::count(b"by three threads", orders_of(queue, seen, 3));
+    console::count(b"by seven threads", orders_of(queue, seen, 7));
 }
 
 // How many orders are looked at for a slot that no event fits.

@@ -3,7 +3,6 @@ mod compare;
 mod known;
 mod orders;
 mod patterns;
-mod show;
 mod tally;
 mod truth;
 
@@ -107,9 +106,9 @@ fn agree(pattern: &[u8], log: &[u8], t: Truth, read: LogRead) -> bool {
 }
 
 fn disagreement(pattern: &[u8], log: &[u8]) {
-    show::text(b"DISAGREEMENT on pattern");
-    show::bytes(pattern);
-    show::text(b", log");
-    show::bytes(log);
-    show::text(b"\n");
+    console::text(b"DISAGREEMENT on pattern");
+    console::bytes(pattern);
+    console::text(b", log");
+    console::bytes(log);
+    console::text(b"\n");
 }

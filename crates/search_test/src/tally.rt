@@ -1,6 +1,5 @@
 // What was seen: kinds of logs and patterns, matches and disagreements.
 use crate::patterns;
-use crate::show;
 use crate::truth;
 use crate::truth::Truth;
 use log::LogRead;
@@ -110,18 +109,18 @@ impl Tally {
     }
 
     pub(crate) fn print(self) {
-        show::count(b"logs", self.logs);
-        show::count(b"accepted", self.accepted);
+        console::count(b"logs", self.logs);
+        console::count(b"accepted", self.accepted);
         if self.accepted <= self.logs {
-            show::count(b"refused", self.logs - self.accepted);
+            console::count(b"refused", self.logs - self.accepted);
         }
-        show::count(b"accepted with seven events", self.full);
+        console::count(b"accepted with seven events", self.full);
         let kinds = self.kinds;
         let sizes = self.sizes;
         print_kinds(kinds);
         print_sizes(sizes);
-        show::count(b"accepted with equal slots", self.repeats);
-        show::count(
+        console::count(b"accepted with equal slots", self.repeats);
+        console::count(
             b"accepted with equal slots and a match",
             self.repeats_matched,
         );
@@ -129,32 +128,32 @@ impl Tally {
     }
 
     fn print_results(self) {
-        show::count(b"accepted with a match", self.matched);
-        show::count(
+        console::count(b"accepted with a match", self.matched);
+        console::count(
             b"accepted with a match that the log's own order does not hold",
             self.swapped,
         );
-        show::count(b"accepted without a match", self.unmatched);
-        show::count(b"orders of accepted logs gone through", self.orders);
-        show::count(b"most orders in one search", self.most);
-        show::count(b"disagreements", self.disagreements);
+        console::count(b"accepted without a match", self.unmatched);
+        console::count(b"orders of accepted logs gone through", self.orders);
+        console::count(b"most orders in one search", self.most);
+        console::count(b"disagreements", self.disagreements);
     }
 }
 
 fn print_kinds(kinds: [u64; 8]) {
-    show::count(b"accepted with a read", kinds[1]);
-    show::count(b"accepted with a write", kinds[2]);
-    show::count(b"accepted with an acquire", kinds[3]);
-    show::count(b"accepted with a release", kinds[4]);
-    show::count(b"accepted with a fork", kinds[5]);
-    show::count(b"accepted with a join", kinds[6]);
-    show::count(b"accepted with a mark", kinds[7]);
+    console::count(b"accepted with a read", kinds[1]);
+    console::count(b"accepted with a write", kinds[2]);
+    console::count(b"accepted with an acquire", kinds[3]);
+    console::count(b"accepted with a release", kinds[4]);
+    console::count(b"accepted with a fork", kinds[5]);
+    console::count(b"accepted with a join", kinds[6]);
+    console::count(b"accepted with a mark", kinds[7]);
 }
 
 fn print_sizes(sizes: [u64; 6]) {
-    show::count(b"accepted with a pattern of 1 slot", sizes[1]);
-    show::count(b"accepted with a pattern of 2 slots", sizes[2]);
-    show::count(b"accepted with a pattern of 3 slots", sizes[3]);
-    show::count(b"accepted with a pattern of 4 slots", sizes[4]);
-    show::count(b"accepted with a pattern of 5 slots", sizes[5]);
+    console::count(b"accepted with a pattern of 1 slot", sizes[1]);
+    console::count(b"accepted with a pattern of 2 slots", sizes[2]);
+    console::count(b"accepted with a pattern of 3 slots", sizes[3]);
+    console::count(b"accepted with a pattern of 4 slots", sizes[4]);
+    console::count(b"accepted with a pattern of 5 slots", sizes[5]);
 }

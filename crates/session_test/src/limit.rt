@@ -14,9 +14,9 @@ pub(crate) fn run() {
     let most = marks(opened.session, mark, 65534);
     let last = hand(b"event 65535", most, mark);
     let over = hand(b"event 65536", last, mark);
-    show::text(b"then: ");
+    console::text(b"then: ");
     show::verdict(over.verdict());
-    show::text(b"\n");
+    console::text(b"\n");
 }
 
 // The session after `count` marks.
@@ -31,9 +31,9 @@ fn marks(from: Session, mark: Event, count: usize) -> Session {
 
 fn hand(name: &[u8], s: Session, e: Event) -> Session {
     let Handed { answer, session } = s.take(e);
-    show::text(name);
-    show::text(b": ");
+    console::text(name);
+    console::text(b": ");
     show::answer(answer);
-    show::text(b"\n");
+    console::text(b"\n");
     session
 }

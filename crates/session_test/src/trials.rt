@@ -117,14 +117,14 @@ fn refusals() {
 
 // What a run says, and what a session says once it has been handed the events before the first that can not be read.
 fn judge(name: &[u8], pattern: &[u8], log: &[u8]) {
-    show::text(name);
-    show::text(b"\n  run: ");
+    console::text(name);
+    console::text(b"\n  run: ");
     show::judged(session::run(pattern, log));
-    show::text(b"\n  session: ");
+    console::text(b"\n  session: ");
     let opened = Session::open(pattern);
     let s = handed(opened.session, log);
     show::verdict(s.verdict());
-    show::text(b"\n");
+    console::text(b"\n");
 }
 
 fn handed(from: Session, log: &[u8]) -> Session {
@@ -138,7 +138,7 @@ fn handed(from: Session, log: &[u8]) -> Session {
         let h = s.take(event);
         let answer = h.answer;
         show::answer(answer);
-        show::text(b", ");
+        console::text(b", ");
         s = h.session;
         at = next;
     }

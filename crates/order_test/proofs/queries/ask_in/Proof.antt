@@ -22,10 +22,10 @@ find-requires-2 : tie.Need-find-requires-2 Inv-loop μ-loop
 find-requires-2 c κs = search needs
 
 sub-put-bytes : tie.Need-sub-put-bytes Inv-loop μ-loop
-sub-put-bytes c = search needs
+sub-put-bytes c = search (needs, c .find2 .ensures .1 (search needs))
 
 part-put-bytes-start : tie.Need-part-put-bytes-start Inv-loop μ-loop
-part-put-bytes-start c = search needs
+part-put-bytes-start c = search (needs, c .find2 .ensures .1 (search needs))
 
 part-put-bytes-end : tie.Need-part-put-bytes-end Inv-loop μ-loop
 part-put-bytes-end c = search needs
@@ -34,10 +34,10 @@ put-bytes-requires : tie.Need-put-bytes-requires Inv-loop μ-loop
 put-bytes-requires c κs = search needs
 
 sub-name : tie.Need-sub-name Inv-loop μ-loop
-sub-name c = search needs
+sub-name c = search (needs, c .before .before .before .before .before .before .find .ensures .1 (search needs))
 
 part-name-start : tie.Need-part-name-start Inv-loop μ-loop
-part-name-start c = search needs
+part-name-start c = search (needs, c .before .before .before .before .before .before .find .ensures .1 (search needs))
 
 part-name-end : tie.Need-part-name-end Inv-loop μ-loop
 part-name-end c = search needs
@@ -61,7 +61,7 @@ add-at : tie.Need-add-at Inv-loop μ-loop
 add-at c = search needs
 
 loop-less : tie.Need-loop-less Inv-loop μ-loop
-loop-less c = search needs
+loop-less c = let f = c .before .before .before .before .before .before .before .before .before .before in search (needs, f .before .find .ensures .1 (search needs), f .find2 .ensures .1 (search needs))
 
 loop-again : tie.Need-loop-again Inv-loop μ-loop
 loop-again c = search needs

@@ -1,10 +1,10 @@
--- `search_test::show::bytes` is safe and ends. The loop stays within the length; what falls is the number of bytes left.
+-- `console::bytes` is safe and ends. The loop stays within the slice; what falls is the number of bytes left.
 use Prim.Native.Nat.{_-_, _≤_}
 use mathlib.Core.Path.{_≡_}
 use lib.ListN.{length}
 use borrow.Author.Needs.{needs}
-use Rattle.search_test.proofs.show.bytes.Tie as tie
-use Rattle.search_test.proofs.show.bytes.Statement.{statement}
+use Rattle.console.proofs.bytes.Statement.{statement}
+use Rattle.console.proofs.bytes.Tie as tie
 
 abbrev Inv-loop : tie.InvT-loop
 Inv-loop s i₀ i-end i = (i-end ≡ length s) × (i ≤ i-end)

@@ -1,13 +1,13 @@
--- `formats_test::vectors::find` is safe and ends. The loop stays between the start and the length; what falls is the number of bytes left.
+-- `console::spelled::find` is safe and ends. The loop starts at `from`; what falls is the number of bytes left.
 use Prim.Native.Nat.{_-_, _≤_}
 use mathlib.Core.Path.{_≡_}
 use lib.ListN.{length}
 use borrow.Author.Needs.{needs}
-use Rattle.formats_test.proofs.vectors.find.Statement.{statement}
-use Rattle.formats_test.proofs.vectors.find.Tie as tie
+use Rattle.console.proofs.spelled.find.Statement.{statement}
+use Rattle.console.proofs.spelled.find.Tie as tie
 
 abbrev Inv-loop : tie.InvT-loop
-Inv-loop s from b i₀ i-end i = (i-end ≡ length s) × (from ≤ i) × (i ≤ i-end)
+Inv-loop s from b i₀ i-end i = (i-end ≡ length s) × (from ≤ i)
 
 abbrev μ-loop : tie.MeasureT-loop
 μ-loop s from b i₀ i-end i = i-end - i

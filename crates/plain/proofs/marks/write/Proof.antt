@@ -1,16 +1,16 @@
--- `order_test::long_log::marks` is safe and ends. The loop keeps the length of the space; what falls is the number of marks left.
+-- `plain::marks::write` is safe and ends. The loop keeps the length of the log; what falls is the number of marks left.
 use Prim.Native.Nat.{_-_, _≤_}
 use mathlib.Core.Path.{_≡_}
 use lib.ListN.{length}
 use borrow.Author.Needs.{needs}
-use Rattle.order_test.proofs.long_log.marks.Statement.{statement}
-use Rattle.order_test.proofs.long_log.marks.Tie as tie
+use Rattle.plain.proofs.marks.write.Statement.{statement}
+use Rattle.plain.proofs.marks.write.Tie as tie
 
 abbrev Inv-loop : tie.InvT-loop
-Inv-loop space₀ count mark at₀ n₀ space at n = (n ≤ count) × (length space ≡ length space₀)
+Inv-loop log₀ at count mark place₀ n₀ log place n = (n ≤ count) × (length log ≡ length log₀)
 
 abbrev μ-loop : tie.MeasureT-loop
-μ-loop space₀ count mark at₀ n₀ space at n = count - n
+μ-loop log₀ at count mark place₀ n₀ log place n = count - n
 
 loop-holds : tie.Need-loop-holds Inv-loop μ-loop
 loop-holds c = search needs
@@ -36,8 +36,8 @@ same-length c = search needs
 returns : tie.Need-returns Inv-loop μ-loop
 returns c = search needs
 
-pub marks-spec : {M : Type 1} → statement M
-marks-spec =
+pub write-spec : {M : Type 1} → statement M
+write-spec =
     tie.close
     (tie.spec
     Inv-loop

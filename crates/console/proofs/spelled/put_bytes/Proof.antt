@@ -1,11 +1,11 @@
--- `formats_test::vectors::put_bytes` is safe and ends. The loop stays within the buffer and keeps its length; what falls is the room left.
+-- `console::spelled::put_bytes` is safe and ends. The loop stays within the buffer and keeps its length; what falls is the room left.
 use Prim.Native.Nat.{_-_, _≤_}
 use native.Mathlib.Omega.{arith}
 use mathlib.Core.Path.{_≡_}
 use lib.ListN.{length, length-set, length-take}
 use borrow.Author.Needs.{needs}
-use Rattle.formats_test.proofs.vectors.put_bytes.Statement.{statement}
-use Rattle.formats_test.proofs.vectors.put_bytes.Tie as tie
+use Rattle.console.proofs.spelled.put_bytes.Statement.{statement}
+use Rattle.console.proofs.spelled.put_bytes.Tie as tie
 
 abbrev Inv-loop : tie.InvT-loop
 Inv-loop hex out₀ from n₀ low₀ out n low = (n ≤ length out) × (length out ≡ length out₀) × (3 ≤ low)
