@@ -1,0 +1,3 @@
+pub mod Back
+pub mod Events
+pub mod Handing

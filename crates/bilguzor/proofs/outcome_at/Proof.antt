@@ -1,0 +1,16 @@
+use borrow.Author.Tests.{eq-eqb, ne-eqb}
+use borrow.Author.Needs.{needs}
+use Rattle.bilguzor.proofs.outcome_at.Statement.{statement}
+use Rattle.bilguzor.proofs.outcome_at.Tie as tie
+
+returns : tie.Need-returns
+returns c = rw (eq-eqb (c .before .args .count) 0 (c .if1 .taken))
+
+wide-requires : tie.Need-wide-requires
+wide-requires c κs = search needs
+
+returns-2 : tie.Need-returns-2
+returns-2 c = rw (ne-eqb (c .before .before .args .count) 0 (c .before .if1 .left), c .wide .ensures)
+
+pub outcome-at-spec : {M : Type 1} → statement M
+outcome-at-spec = tie.close (tie.spec returns wide-requires returns-2)

@@ -1,0 +1,157 @@
+/* bilguzor: whether some order of the events of a log holds a pattern. The functions of libbilguzor.a, for C and C++.
+ *
+ * Every function ends, traps on nothing and keeps no memory of its own: what it knows of a session lies in the bilguzor_session that the
+ * caller holds. A pointer must not be NULL, even where its size is 0, and must lead to as many bytes or numbers as is said of it.
+ *
+ * Bytes of a pattern or a log, one command after another, closed by 00; operands of more bytes have the low byte first:
+ *
+ *   byte  event     operands, each with its width in bytes
+ *   01    read      thread 1, variable 1
+ *   02    write     thread 1, variable 1, height 4 (in a log only)
+ *   03    acquire   thread 1, lock 1
+ *   04    release   thread 1, lock 1
+ *   05    fork      thread 1, child thread 1
+ *   06    join      thread 1, child thread 1
+ *   07    mark      thread 1, mark 2
+ *
+ * Threads and children run 0 to 7, variables 0 to 31, locks 0 to 15, marks 0 to 65535. A pattern has 1 to 5 commands, a log 0 to 65535.
+ *
+ * Whatever is refused gets a number, and the offset of the first byte of the command concerned, in the pattern or in the log. The numbers stand
+ * in the order in which they are looked for; 0 is no refusal:
+ *
+ *    1  pattern: its first byte is 00
+ *    2  pattern: a byte other than 00 after five commands; the offset of that byte
+ *    3  command: a byte above 07; in bilguzor_take, an operation that is not 1 to 7
+ *    4  command: an operand cut short; or no closing 00, and then the offset is the size
+ *    5  command: thread above 7
+ *    6  command: object above its limit
+ *    7  command: fork or join of the acting thread itself
+ *    8  a byte follows the closing 00; the offset of that byte
+ *    9  event: 65535 events are already taken
+ *   10  event: the acting thread is already joined
+ *   11  event: acquire of a held lock
+ *   12  event: release by a thread that does not hold the lock
+ *   13  event: fork of a thread that acted or was named by a fork or join
+ *   14  event: join of a joined thread
+ *   16  order query: an event number of 0 or above the number of events; the offset is 0
+ *
+ * (15 belongs to writing a log, which is not exported.)
+ */
+#ifndef BILGUZOR_H
+#define BILGUZOR_H
+
+#include <stddef.h>
+#include <stdint.h>
+
+#ifdef __cplusplus
+extern "C" {
+#endif
+
+#define BILGUZOR_SLOTS 5
+#define BILGUZOR_CLOCKS 704
+#define BILGUZOR_TABLE 512
+#define BILGUZOR_PATTERN 21
+#define BILGUZOR_STATE 24
+
+/* The field `kind` of an answer. */
+enum bilguzor_kind {
+    BILGUZOR_NO = 0, /* no order holds the pattern; or: the first event does not come before the second */
+    BILGUZOR_YES = 1, /* some order holds the pattern; or: the first event comes before the second or is it */
+    BILGUZOR_PATTERN_REFUSED = 2,
+    BILGUZOR_LOG_REFUSED = 3,
+    BILGUZOR_QUERY_REFUSED = 4
+};
+
+/* What a run, or a session so far, has found. 32 bytes. */
+typedef struct bilguzor_judgement {
+    uint8_t kind; /* BILGUZOR_NO, BILGUZOR_YES, BILGUZOR_PATTERN_REFUSED or BILGUZOR_LOG_REFUSED */
+    uint8_t number; /* of the refusal; 0 without one */
+    uint16_t events[BILGUZOR_SLOTS]; /* with a match, the number of the event for each slot, counted from 1; 0 beyond the pattern and without a match */
+    size_t count; /* with a match, the smallest number of leading events that suffices; else 0 */
+    size_t offset; /* of the refusal; 0 without one */
+} bilguzor_judgement;
+
+/* Whether one event of a log comes before another. 16 bytes. */
+typedef struct bilguzor_ordering {
+    uint8_t kind; /* BILGUZOR_NO, BILGUZOR_YES, BILGUZOR_LOG_REFUSED or BILGUZOR_QUERY_REFUSED */
+    uint8_t number; /* of the refusal; 0 without one */
+    size_t offset; /* of the refusal; 0 without one */
+} bilguzor_ordering;
+
+/* What became of an event that was handed to a session. 16 bytes. */
+typedef struct bilguzor_answer {
+    uint8_t number; /* 0: the event is taken; else that of the refusal, and the session is as it was */
+    size_t offset; /* 0, also for a refusal */
+} bilguzor_answer;
+
+/* A session: 2482 bytes, which may be copied. It comes from bilguzor_open alone, and only bilguzor_take changes it. */
+typedef struct bilguzor_session {
+    uint16_t clocks[BILGUZOR_CLOCKS]; /* how many events of each thread come before */
+    uint16_t table[BILGUZOR_TABLE]; /* the best partial match of every set of slots */
+    uint16_t taken; /* how many events are taken */
+    uint16_t count; /* the count of the match, 0 without one */
+    uint8_t pattern[BILGUZOR_PATTERN]; /* for each slot its thread, its byte, and its object in two bytes; then how many slots there are */
+    uint8_t state[BILGUZOR_STATE]; /* of each thread whether it acted or is joined, and who holds each lock */
+} bilguzor_session;
+
+/* A session that was opened. 2512 bytes. */
+typedef struct bilguzor_opening {
+    uint8_t number; /* 0: the pattern is accepted; else that of the refusal */
+    size_t offset; /* of the refusal; 0 without one */
+    size_t slots; /* how many the pattern has; 0 for a refused one */
+    bilguzor_session session; /* on the pattern, with no event taken; for a refused one, on the lone slot thread 0, mark 0 */
+} bilguzor_opening;
+
+/* Judges a whole log by a pattern. A refused pattern answers BILGUZOR_PATTERN_REFUSED (1 to 8), and the log is not looked at; a refusal anywhere
+ * in the log answers BILGUZOR_LOG_REFUSED (3 to 14), also after a match. */
+bilguzor_judgement bilguzor_run(const uint8_t *pattern, size_t pattern_size, const uint8_t *log, size_t log_size);
+
+/* Whether event number `first` of the log, counted from 1, comes before event number `second` or is it. A refused log answers BILGUZOR_LOG_REFUSED
+ * (3 to 14); a number that no event of the log has then BILGUZOR_QUERY_REFUSED (16). */
+bilguzor_ordering bilguzor_order(const uint8_t *log, size_t log_size, size_t first, size_t second);
+
+/* Opens a session on a pattern. A refused pattern (1 to 8) still gives a session, on the lone slot thread 0, mark 0. */
+bilguzor_opening bilguzor_open(const uint8_t *pattern, size_t pattern_size);
+
+/* Hands one event to the session whose parts are lent. `operation` is the byte of the event, `object` its variable, lock, child or mark;
+ * `height` counts for a write alone. Every number may be given: an operation other than 1 to 7 is refused with 3, then a thread above 7 with 5, an
+ * object above its limit with 6, and so on to 14. A refused event leaves the session as it was. */
+bilguzor_answer bilguzor_take(uint16_t clocks[BILGUZOR_CLOCKS], uint16_t table[BILGUZOR_TABLE], uint16_t *taken, uint16_t *count,
+    const uint8_t pattern[BILGUZOR_PATTERN], uint8_t state[BILGUZOR_STATE], uint32_t thread, uint32_t operation, uint32_t object, int32_t height);
+
+/* What the session whose parts are lent has found in the events taken so far: BILGUZOR_YES or BILGUZOR_NO; it refuses nothing. */
+bilguzor_judgement bilguzor_verdict(const uint16_t table[BILGUZOR_TABLE], uint16_t count, const uint8_t pattern[BILGUZOR_PATTERN]);
+
+/* The same two, given the session whole. */
+static inline bilguzor_answer bilguzor_session_take(
+    bilguzor_session *session, uint32_t thread, uint32_t operation, uint32_t object, int32_t height)
+{
+    return bilguzor_take(session->clocks, session->table, &session->taken, &session->count, session->pattern, session->state, thread,
+        operation, object, height);
+}
+
+static inline bilguzor_judgement bilguzor_session_verdict(const bilguzor_session *session)
+{
+    return bilguzor_verdict(session->table, session->count, session->pattern);
+}
+
+#ifdef __cplusplus
+}
+#endif
+
+/* The sizes that the library was compiled with. */
+#if defined(__cplusplus) && __cplusplus >= 201103L
+#define BILGUZOR_ASSERT_SIZE(type, size) static_assert(sizeof(type) == (size), #type " has another size than in the library")
+#elif defined(__STDC_VERSION__) && __STDC_VERSION__ >= 201112L
+#define BILGUZOR_ASSERT_SIZE(type, size) _Static_assert(sizeof(type) == (size), #type " has another size than in the library")
+#else
+#define BILGUZOR_ASSERT_SIZE(type, size) typedef char type##_has_its_size[sizeof(type) == (size) ? 1 : -1]
+#endif
+
+BILGUZOR_ASSERT_SIZE(bilguzor_judgement, 32);
+BILGUZOR_ASSERT_SIZE(bilguzor_ordering, 16);
+BILGUZOR_ASSERT_SIZE(bilguzor_answer, 16);
+BILGUZOR_ASSERT_SIZE(bilguzor_session, 2482);
+BILGUZOR_ASSERT_SIZE(bilguzor_opening, 2512);
+
+#endif
