@@ -1,0 +1,207 @@
+// A session that is handed its events one by one, runs over whole logs, and order queries, through libbilguzor.a.
+// `bilguzor.h` says what each function answers; the declarations below are the same.
+#[repr(C)]
+struct Judgement {
+    kind: u8,
+    number: u8,
+    events: [u16; 5],
+    count: usize,
+    offset: usize,
+}
+
+#[repr(C)]
+struct Ordering {
+    kind: u8,
+    number: u8,
+    offset: usize,
+}
+
+#[repr(C)]
+struct Answer {
+    number: u8,
+    offset: usize,
+}
+
+#[repr(C)]
+struct Session {
+    clocks: [u16; 704],
+    table: [u16; 512],
+    taken: u16,
+    count: u16,
+    pattern: [u8; 21],
+    state: [u8; 24],
+}
+
+#[repr(C)]
+struct Opening {
+    number: u8,
+    offset: usize,
+    slots: usize,
+    session: Session,
+}
+
+// The sizes that the library was compiled with.
+const _: () = assert!(std::mem::size_of::<Judgement>() == 32);
+const _: () = assert!(std::mem::size_of::<Ordering>() == 16);
+const _: () = assert!(std::mem::size_of::<Answer>() == 16);
+const _: () = assert!(std::mem::size_of::<Session>() == 2482);
+const _: () = assert!(std::mem::size_of::<Opening>() == 2512);
+
+extern "C" {
+    fn bilguzor_run(pattern: *const u8, pattern_size: usize, log: *const u8, log_size: usize) -> Judgement;
+    fn bilguzor_order(log: *const u8, log_size: usize, first: usize, second: usize) -> Ordering;
+    fn bilguzor_open(pattern: *const u8, pattern_size: usize) -> Opening;
+    fn bilguzor_take(
+        clocks: &mut [u16; 704],
+        table: &mut [u16; 512],
+        taken: &mut u16,
+        count: &mut u16,
+        pattern: &[u8; 21],
+        state: &mut [u8; 24],
+        thread: u32,
+        operation: u32,
+        object: u32,
+        height: i32,
+    ) -> Answer;
+    fn bilguzor_verdict(table: &[u16; 512], count: u16, pattern: &[u8; 21]) -> Judgement;
+}
+
+const NO: u8 = 0;
+const YES: u8 = 1;
+const PATTERN_REFUSED: u8 = 2;
+const LOG_REFUSED: u8 = 3;
+
+const WRITE: u32 = 2;
+const RELEASE: u32 = 4;
+const MARK: u32 = 7;
+
+// A slice's pointer is never null, so each call below is within what the header asks.
+fn run(pattern: &[u8], log: &[u8]) -> Judgement {
+    unsafe { bilguzor_run(pattern.as_ptr(), pattern.len(), log.as_ptr(), log.len()) }
+}
+
+fn order(log: &[u8], first: usize, second: usize) -> Ordering {
+    unsafe { bilguzor_order(log.as_ptr(), log.len(), first, second) }
+}
+
+fn open(pattern: &[u8]) -> Opening {
+    unsafe { bilguzor_open(pattern.as_ptr(), pattern.len()) }
+}
+
+impl Session {
+    fn take(&mut self, thread: u32, operation: u32, object: u32, height: i32) -> Answer {
+        unsafe {
+            bilguzor_take(
+                &mut self.clocks,
+                &mut self.table,
+                &mut self.taken,
+                &mut self.count,
+                &self.pattern,
+                &mut self.state,
+                thread,
+                operation,
+                object,
+                height,
+            )
+        }
+    }
+
+    fn verdict(&self) -> Judgement {
+        unsafe { bilguzor_verdict(&self.table, self.count, &self.pattern) }
+    }
+}
+
+fn print_judgement(what: &str, j: &Judgement) {
+    match j.kind {
+        YES => {
+            let events: Vec<String> = j.events.iter().map(|e| e.to_string()).collect();
+            println!("{what}: match at {}, events {}", j.count, events.join(" "));
+        }
+        NO => println!("{what}: no match"),
+        kind => {
+            let whose = if kind == PATTERN_REFUSED { "pattern" } else { "log" };
+            println!("{what}: {whose} refused {} at {}", j.number, j.offset);
+        }
+    }
+}
+
+fn print_ordering(what: &str, o: &Ordering) {
+    match o.kind {
+        YES => println!("{what}: yes"),
+        NO => println!("{what}: no"),
+        kind => {
+            let whose = if kind == LOG_REFUSED { "log" } else { "query" };
+            println!("{what}: {whose} refused {} at {}", o.number, o.offset);
+        }
+    }
+}
+
+fn hand(session: &mut Session, thread: u32, operation: u32, object: u32, height: i32) {
+    let a = session.take(thread, operation, object, height);
+    print!("thread {thread} operation {operation} object {object}: ");
+    if a.number != 0 {
+        print!("refused {} at {}, ", a.number, a.offset);
+    }
+    print!("{} taken", session.taken);
+    print_judgement("", &session.verdict());
+}
+
+fn open_session(what: &str, pattern: &[u8]) -> Session {
+    let o = open(pattern);
+    if o.number == 0 {
+        println!("{what}: {} slots", o.slots);
+    } else {
+        println!("{what}: refused {} at {}", o.number, o.offset);
+    }
+    o.session
+}
+
+fn sessions() {
+    // thread 1 mark 10, thread 0 mark 20, thread 0 mark 21, thread 1 mark 11
+    let marks = [7, 1, 10, 0, 7, 0, 20, 0, 7, 0, 21, 0, 7, 1, 11, 0, 0];
+    let mut session = open_session("four marks", &marks);
+    hand(&mut session, 1, MARK, 10, 0);
+    hand(&mut session, 1, MARK, 11, 0);
+    hand(&mut session, 8, MARK, 20, 0);
+    hand(&mut session, 0, 0, 20, 0);
+    hand(&mut session, 0, MARK, 65536, 0);
+    hand(&mut session, 0, WRITE, 32, -400);
+    hand(&mut session, 0, WRITE, 31, -400);
+    hand(&mut session, 0, MARK, 20, 0);
+    hand(&mut session, 0, MARK, 21, 0);
+    hand(&mut session, 0, RELEASE, 3, 0);
+    let mut lone = open_session("no slot", &[0]);
+    hand(&mut lone, 0, MARK, 0, 0);
+}
+
+// thread 1 mark 11; thread 0 writes variable 0, height -400 mm
+const SIGN_LOG: [u8; 12] = [7, 1, 11, 0, 2, 0, 0, 0x70, 0xFE, 0xFF, 0xFF, 0];
+
+// thread 0 acquires lock 2 twice
+const HELD_LOG: [u8; 7] = [3, 0, 2, 3, 0, 2, 0];
+
+fn runs() {
+    let sign = [2, 0, 0, 7, 1, 11, 0, 0];
+    let other = [7, 1, 12, 0, 0];
+    let open_ended = [7, 1, 12, 0];
+    print_judgement("run", &run(&sign, &SIGN_LOG));
+    print_judgement("run", &run(&other, &SIGN_LOG));
+    print_judgement("run", &run(&other, &HELD_LOG));
+    print_judgement("run", &run(&open_ended, &HELD_LOG));
+}
+
+fn orders() {
+    // thread 0 writes variable 3, thread 1 reads it, thread 1 marks 5
+    let log = [2, 0, 3, 0, 0, 0, 0, 1, 1, 3, 7, 1, 5, 0, 0];
+    print_ordering("1 before 3", &order(&log, 1, 3));
+    print_ordering("3 before 1", &order(&log, 3, 1));
+    print_ordering("1 before 2, independent", &order(&SIGN_LOG, 1, 2));
+    print_ordering("1 before 4", &order(&log, 1, 4));
+    print_ordering("1 before 2", &order(&HELD_LOG, 1, 2));
+}
+
+fn main() {
+    sessions();
+    runs();
+    orders();
+}
