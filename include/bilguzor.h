@@ -1,7 +1,8 @@
 /* bilguzor: whether some order of the events of a log holds a pattern. The functions of libbilguzor.a, for C and C++.
  *
- * Every function ends, traps on nothing and keeps no memory of its own: what it knows of a session lies in the bilguzor_session that the
- * caller holds. A pointer must not be NULL, even where its size is 0, and must lead to as many bytes or numbers as is said of it.
+ * Every function ends, traps on nothing and keeps no memory of its own: what is known of a session lies in the bilguzor_session that the
+ * caller holds, so that threads may work at once, each on its own session. A pointer must not be NULL, even where its size is 0, and must lead to
+ * as many bytes or numbers as is said of it; what is written must not overlap what else is lent to the same call.
  *
  * Bytes of a pattern or a log, one command after another, closed by 00; operands of more bytes have the low byte first:
  *
