@@ -1,8 +1,8 @@
 -- The parts of an opened session are that session again.
-use Prim.Native.Nat.{ℕ, zero, suc, _+_, _*_, _-_, _/_, _%_, _<_}
+use Prim.Native.Nat.{ℕ, zero, suc, _+_, _*_, _-_, _<_}
 use native.Mathlib.Omega.{arith}
 use native.Mathlib.Nat.{mod-eq-of-lt}
-use mathlib.Core.Path.{_≡_, refl, sym, ap, _∙_}
+use mathlib.Core.Path.{_≡_, refl, ap, _∙_}
 use mathlib.Core.List.{List, [], _∷_, _++_}
 use lib.ListN.{length, getD, replicate, length-append, length-replicate}
 use Rattle.event.specs.declared.SlotOperation.{SlotOperation}
@@ -90,6 +90,10 @@ module _ (ss : List Slot) (g : GoodPattern ss) where
         count = 0;
       }
 
+pub kept : (x : Outcome) (p : Parts) → openingFrom x p .session ≡ p
+kept (passed n) p = refl
+kept (refused k o) p = refl
+
 -- what an opening answers, once its session is put into parts
 pub opened : (bytes : List ℕ) (o : Opened) → OpenedOn bytes o → (p : Parts) → p ≡ partsOf (o .session) → (r : Opening) → r ≡ openingFrom (patternAnswerIs (o .answer)) p
     → (r ≡ openingOf bytes) × Describes (slotsUsed (readPattern bytes)) [] (sessionIn (r .session))
@@ -98,7 +102,3 @@ opened bytes o h p q r e =
     let there : r .session ≡ partsOf (freshOn (patternOf (slotsUsed (readPattern bytes)))) =
     ap (λ (x : Opening). x .session) e ∙ kept (patternAnswerIs (o .answer)) p ∙ q ∙ ap partsOf (h .session) in
     (exact, rw (there, session-back (slotsUsed (readPattern bytes)) (h .described .good)) (rw (h .session) at (h .described)))
-  where
-    kept : (x : Outcome) (p : Parts) → openingFrom x p .session ≡ p
-    kept (passed n) p = refl
-    kept (refused k o) p = refl

@@ -1,5 +1,5 @@
 -- What the code leaves in a session's parts is what the model says of the session.
-use Prim.Native.Nat.{ℕ, _+_, _<_}
+use Prim.Native.Nat.{ℕ, _+_}
 use mathlib.Core.Path.{_≡_, refl, sym, ap, _∙_}
 use mathlib.Core.Bool.{Bool, false, cond}
 use mathlib.Core.List.{List, reverse}
@@ -89,7 +89,7 @@ module _ (p : Parts) (t b o : ℕ) (h : ℤ) where
   same-pattern = by-test (noOperation b) (λ q. rw q) (λ q. rw q (handed-pattern (sessionIn p) (eventFrom t b o h)))
 
   -- the parts that are left are the session that the model says
-  again : sessionIn (partsWith p (outcome .session)) ≡ outcome .session
+  pub again : sessionIn (partsWith p (outcome .session)) ≡ outcome .session
   again =
       sym (λ i. record {
         pattern = same-pattern i;
@@ -100,7 +100,7 @@ module _ (p : Parts) (t b o : ℕ) (h : ℤ) where
         count = outcome .session .count;
       })
 
-  described : (ss : List Slot) (es : List Event) → Describes ss es (sessionIn p)
+  pub described : (ss : List Slot) (es : List Event) → Describes ss es (sessionIn p)
       → (numberOf (outcome .answer) ≡ refusalNumber (reverse es) t b o h) × Describes ss (takenNumbers es t b o h) (outcome .session)
   unfolding handedNumbers refusalNumber takenNumbers
   described ss es d =

@@ -59,7 +59,7 @@ operationFrom b object height =
 abbrev pub eventFrom : ℕ → ℕ → ℕ → ℤ → Event
 eventFrom t b object height = record { thread = t; operation = operationFrom b object height }
 
--- the object of the byte's event stands in as many bits as that event gives it
+-- the object fits the one byte that every event but a mark gives it
 abbrev pub Stands : ℕ → ℕ → Type 0
 Stands b object = (b ≡ 7 → ⊥) → object < 256
 
