@@ -1,0 +1,387 @@
+// Holds everything that is timed to the independent implementation, on many random inputs, before anything is timed.
+use crate::contest;
+use crate::ffi::{self, Session};
+use crate::load::{self, Bytes, Steps};
+use crate::reference::{self, Event, Label, Past};
+use crate::verdict::{found, Judged, Outcome, Refusal, EVENTS, SLOTS};
+
+/// How many inputs of each kind.
+const SHORT: usize = 16000;
+const MIDDLE: usize = 3000;
+const LONG: usize = 300;
+const DAMAGED: usize = 16000;
+const PATTERNS: usize = 8000;
+
+#[derive(Default)]
+struct Totals {
+    inputs: usize,
+    matches: usize,
+    nones: usize,
+    refused: [usize; 16],
+    handed: usize,
+    verdicts: usize,
+    queries: usize,
+}
+
+/// Whether one event, counted from 0, comes before another or is it.
+type Before = Box<dyn Fn(usize, usize) -> bool>;
+
+/// By all chains where the log is not too long, and then by stamps too; else by stamps alone.
+fn before(log: &[Label]) -> Before {
+    let list = log.to_vec();
+    let stamp = reference::stamps(log);
+    let by_stamp = move |i: usize, j: usize| {
+        let t = list[i].thread as usize;
+        stamp[i][t] <= stamp[j][t]
+    };
+    if log.len() > 200 {
+        return Box::new(by_stamp);
+    }
+    let chain = reference::chains(log);
+    for j in 0..log.len() {
+        for i in 0..log.len() {
+            assert_eq!(chain[j][i], by_stamp(i, j), "stamps and chains differ on {log:?}");
+        }
+    }
+    Box::new(move |i, j| chain[j][i])
+}
+
+/// The count by the least tuple, and for a short log by looking through all its orders too.
+fn count(slots: &[Label], log: &[Label], before: &Before) -> usize {
+    let count = reference::count_by_tuple(slots, log, before);
+    if log.len() <= 8 {
+        assert_eq!(count, reference::count_by_orders(slots, log), "the least tuple and all orders differ on {log:?}");
+    }
+    count
+}
+
+/// What document 01 asks of the events named for the slots.
+fn named(slots: &[Label], log: &[Label], before: &Before, count: usize, numbers: [u16; SLOTS]) -> bool {
+    let (used, beyond) = numbers.split_at(if count == 0 { 0 } else { slots.len() });
+    let events: Vec<usize> = used.iter().map(|&n| n as usize).collect();
+    if beyond.iter().any(|&n| n != 0) || events.iter().any(|&n| n == 0 || n > count) {
+        return false;
+    }
+    let fit = events.iter().zip(slots).all(|(&n, &slot)| log[n - 1] == slot);
+    let free = |k: usize| events[..k].iter().all(|&earlier| !before(events[k] - 1, earlier - 1));
+    fit && (0..events.len()).all(free)
+}
+
+/// What the independent implementation answers, with what is needed to look at the named events.
+struct Expected {
+    outcome: Outcome,
+    slots: Vec<Label>,
+    log: Vec<Label>,
+    before: Before,
+}
+
+fn labels(events: &[Event]) -> Vec<Label> {
+    events.iter().map(|e| e.label).collect()
+}
+
+fn expected(pattern: &[u8], log: &[u8]) -> Expected {
+    let read = reference::read_log(log);
+    let list = labels(read.as_deref().unwrap_or(&[]));
+    let slots = reference::read_pattern(pattern);
+    let before = before(&list);
+    let outcome = match (&slots, read) {
+        (Err(refusal), _) => Outcome::PatternRefused(*refusal),
+        (_, Err(refusal)) => Outcome::LogRefused(refusal),
+        (Ok(slots), Ok(_)) => found(count(slots, &list, &before)),
+    };
+    Expected {
+        outcome,
+        slots: slots.unwrap_or_default(),
+        log: list,
+        before,
+    }
+}
+
+fn count_of(outcome: Outcome) -> usize {
+    match outcome {
+        Outcome::Match { count } => count,
+        _ => 0,
+    }
+}
+
+/// What the floor answers where the whole checker answers this: it knows no pattern.
+fn without_pattern(log: &[u8]) -> Outcome {
+    match reference::read_log(log) {
+        Ok(_) => Outcome::None,
+        Err(refusal) => Outcome::LogRefused(refusal),
+    }
+}
+
+impl Totals {
+    fn note(&mut self, outcome: Outcome) {
+        self.inputs += 1;
+        match outcome {
+            Outcome::Match { .. } => self.matches += 1,
+            Outcome::None => self.nones += 1,
+            Outcome::PatternRefused(r) | Outcome::LogRefused(r) => self.refused[r.number as usize] += 1,
+        }
+    }
+
+    /// One pattern and one log: the run with its named events, and the three others.
+    fn hold(&mut self, pattern: &[u8], log: &[u8]) {
+        let e = expected(pattern, log);
+        self.note(e.outcome);
+        let judged = ffi::run(pattern, log);
+        let fine = named(&e.slots, &e.log, &e.before, count_of(e.outcome), judged.numbers);
+        assert!(judged.outcome == e.outcome && fine, "run: {judged:?}, not {:?}: {pattern:02x?} {log:02x?}", e.outcome);
+        for (name, contestant) in contest::ALL {
+            let wanted = if name == "c" { without_pattern(log) } else { e.outcome };
+            let got = contestant(pattern, log);
+            assert_eq!(got, wanted, "({name}): {pattern:02x?} {log:02x?}");
+        }
+        self.hold_order(log, &e);
+    }
+
+    /// A few order queries of an accepted log, one of them past its end.
+    fn hold_order(&mut self, log: &[u8], e: &Expected) {
+        let n = e.log.len();
+        if n == 0 || n > 200 {
+            return;
+        }
+        let mut steps = Steps(n as u32 + log.len() as u32);
+        for _ in 0..3 {
+            let (i, j) = (steps.below(n as u32) as usize, steps.below(n as u32) as usize);
+            assert_eq!(ffi::order(log, i + 1, j + 1), Ok((e.before)(i, j)), "order {i} {j}: {log:02x?}");
+        }
+        assert_eq!(ffi::order(log, n, n + 1), Err(Refusal { number: 16, offset: 0 }));
+        self.queries += 4;
+    }
+
+    /// One session over a list of events, good or bad: each answer, and the verdict after every event.
+    fn hand(&mut self, pattern: &[u8], list: &[Event]) {
+        let read = reference::read_pattern(pattern);
+        let (mut session, answer) = Session::open(pattern);
+        assert_eq!(answer, read.as_ref().map(Vec::len).map_err(|r| *r), "opening: {pattern:02x?}");
+        let lone = Label { op: 7, thread: 0, object: 0 };
+        let slots = read.unwrap_or(vec![lone]);
+        let taken = accepted(list);
+        let before = before(&taken);
+        let count = count(&slots, &taken, &before);
+        let mut past = Past::default();
+        for e in list {
+            let wanted = past.refusal(e.label);
+            let old = session.clone();
+            let got = session.take(e.label.thread, e.label.op, e.label.object, e.height);
+            assert_eq!(got, wanted, "event {e:?} of {list:?}");
+            assert!(got == 0 || session == old, "a refused event changed the session: {list:?}");
+            if got == 0 {
+                past.take(e.label);
+            }
+            let so_far = if count <= past.taken { count } else { 0 };
+            let Judged { outcome, numbers } = session.verdict();
+            let fine = outcome == found(so_far) && named(&slots, &taken, &before, so_far, numbers);
+            assert!(fine, "verdict {outcome:?} {numbers:?} after {} of {list:?}", past.taken);
+            self.handed += 1;
+            self.verdicts += 1;
+        }
+    }
+}
+
+/// The events of a list that are taken.
+fn accepted(list: &[Event]) -> Vec<Label> {
+    let mut past = Past::default();
+    let mut taken = Vec::new();
+    for e in list {
+        if past.refusal(e.label) == 0 {
+            past.take(e.label);
+            taken.push(e.label);
+        }
+    }
+    taken
+}
+
+/// A random event: of few threads and objects, so that matches, chains and broken rules are common.
+fn event(steps: &mut Steps, threads: u32) -> Event {
+    let thread = steps.below(threads) as u8;
+    let op = [1, 2, 1, 2, 3, 4, 7, 7, 7, 7, 5, 6][steps.below(12) as usize];
+    let object = match op {
+        5 | 6 => steps.below(8) as u16,
+        _ => steps.below(2) as u16,
+    };
+    Event {
+        label: Label { op, thread, object },
+        height: steps.next() as i32,
+    }
+}
+
+/// A list of accepted events.
+fn good(steps: &mut Steps, threads: u32, size: usize) -> Vec<Event> {
+    let mut past = Past::default();
+    let mut list = Vec::new();
+    // A thread that is joined acts no more, so that a long list needs one that never is.
+    while list.len() < size {
+        let e = event(steps, threads);
+        let last = e.label.op == 6 && steps.below(size as u32 + 4) > 3;
+        if past.refusal(e.label) == 0 && !last && !(e.label.op == 6 && e.label.object == 0) {
+            past.take(e.label);
+            list.push(e);
+        }
+    }
+    list
+}
+
+fn put(bytes: &mut Bytes, e: Event, tall: bool) {
+    let Label { op, thread, object } = e.label;
+    match op {
+        7 => bytes.mark(thread, object),
+        2 if tall => bytes.write(thread, object as u8, e.height),
+        _ => bytes.plain(op, thread, object as u8),
+    }
+}
+
+fn bytes_of(list: &[Event], tall: bool) -> Vec<u8> {
+    let mut bytes = Bytes::default();
+    for &e in list {
+        put(&mut bytes, e, tall);
+    }
+    bytes.close()
+}
+
+/// A pattern of one to five slots, most of them events of the list.
+fn pattern_for(steps: &mut Steps, list: &[Event]) -> Vec<u8> {
+    let size = 1 + steps.below(SLOTS as u32);
+    let mut slots = Vec::new();
+    while slots.len() < size as usize {
+        let slot = match list.len() {
+            n if n > 0 && steps.below(8) > 0 => list[steps.below(n as u32) as usize],
+            _ => event(steps, 3),
+        };
+        if reference::range(slot.label) == 0 {
+            slots.push(slot);
+        }
+    }
+    bytes_of(&slots, false)
+}
+
+/// Spoils a row of bytes in one of the ways in which files are spoilt.
+fn damage(steps: &mut Steps, bytes: &mut Vec<u8>) {
+    let at = steps.below(bytes.len() as u32 + 1) as usize;
+    let value = if steps.below(2) == 0 { steps.below(256) as u8 } else { steps.below(9) as u8 };
+    match steps.below(5) {
+        0 => bytes.truncate(at),
+        1 => bytes.insert(at, value),
+        2 => bytes.push(value),
+        3 if at < bytes.len() => drop(bytes.remove(at)),
+        _ if at < bytes.len() => bytes[at] = value,
+        _ => bytes.clear(),
+    }
+}
+
+/// Every event by its form up to the first that is refused for its form.
+fn by_form(log: &[u8]) -> Vec<Event> {
+    let mut list = Vec::new();
+    let mut at = 0;
+    while let Ok(Some((e, next))) = reference::command(log, at, true) {
+        list.push(e);
+        at = next;
+    }
+    list
+}
+
+/// Short logs, each also handed to a session event by event.
+fn short(totals: &mut Totals, steps: &mut Steps) {
+    for _ in 0..SHORT {
+        let threads = 2 + steps.below(3);
+        let size = steps.below(9) as usize;
+        let list = good(steps, threads, size);
+        let pattern = pattern_for(steps, &list);
+        totals.hold(&pattern, &bytes_of(&list, true));
+        totals.hand(&pattern, &list);
+    }
+}
+
+/// Longer logs; the pattern is rarer there, so that some match late and some never.
+fn longer(totals: &mut Totals, steps: &mut Steps, inputs: usize, least: u32, most: u32) {
+    for _ in 0..inputs {
+        let size = (least + steps.below(most - least)) as usize;
+        let threads = 2 + steps.below(7);
+        let list = good(steps, threads, size);
+        let tail = &list[size - 1 - steps.below(size as u32) as usize..];
+        let pattern = pattern_for(steps, tail);
+        totals.hold(&pattern, &bytes_of(&list, true));
+        if size < 60 {
+            totals.hand(&pattern, &list);
+        }
+    }
+}
+
+/// Logs with bytes spoilt, or with events put in that may break a rule.
+fn damaged(totals: &mut Totals, steps: &mut Steps) {
+    for n in 0..DAMAGED {
+        let size = steps.below(if n % 4 == 0 { 120 } else { 9 }) as usize;
+        let mut list = good(steps, 4, size);
+        let pattern = pattern_for(steps, &list);
+        for _ in 0..steps.below(3) {
+            let at = steps.below(list.len() as u32 + 1) as usize;
+            list.insert(at, event(steps, 4));
+        }
+        let mut log = bytes_of(&list, true);
+        if n % 2 == 0 {
+            damage(steps, &mut log);
+        }
+        totals.hold(&pattern, &log);
+        totals.hand(&pattern, &by_form(&log));
+    }
+}
+
+/// Patterns with bytes spoilt, with no slot or too many.
+fn patterns(totals: &mut Totals, steps: &mut Steps) {
+    for n in 0..PATTERNS {
+        let list = good(steps, 3, 6);
+        let mut pattern = match n % 3 {
+            0 => bytes_of(&list[..steps.below(7) as usize], false),
+            _ => pattern_for(steps, &list),
+        };
+        if n % 2 == 0 {
+            damage(steps, &mut pattern);
+        }
+        totals.hold(&pattern, &bytes_of(&list, true));
+        totals.hand(&pattern, &list);
+    }
+}
+
+/// The inputs that are timed, and logs on both sides of the event limit.
+fn whole(totals: &mut Totals) {
+    for input in load::inputs() {
+        totals.hold(&input.pattern, &input.log);
+    }
+    for (seed, events) in [(0, EVENTS), (1, EVENTS), (0, EVENTS + 1), (1, EVENTS + 1)] {
+        let input = load::input("Note 11", 5, "never", 1);
+        totals.hold(&input.pattern, &load::note_11(seed, events));
+    }
+}
+
+/// The example of the formats' document, and the first event of Note 11.
+fn examples() {
+    assert_eq!(load::note_11(0, 1), [7, 0, 6, 0, 0]);
+    let pattern = [2, 0, 0, 7, 1, 11, 0, 0];
+    let log = [7, 1, 11, 0, 2, 0, 0, 0x70, 0xFE, 0xFF, 0xFF, 0];
+    let judged = Judged {
+        outcome: Outcome::Match { count: 2 },
+        numbers: [2, 1, 0, 0, 0],
+    };
+    assert_eq!(ffi::run(&pattern, &log), judged);
+}
+
+/// Stops the program at the first difference; else says how much was compared.
+pub fn all() {
+    let mut totals = Totals::default();
+    let mut steps = Steps(2024);
+    examples();
+    short(&mut totals, &mut steps);
+    longer(&mut totals, &mut steps, MIDDLE, 9, 200);
+    longer(&mut totals, &mut steps, LONG, 201, 3000);
+    damaged(&mut totals, &mut steps);
+    patterns(&mut totals, &mut steps);
+    whole(&mut totals);
+    let Totals { inputs, matches, nones, refused, handed, verdicts, queries } = totals;
+    let numbers: Vec<String> = (1..15).map(|k| format!("{k}: {}", refused[k])).collect();
+    println!("Agreement: {inputs} inputs, (a) to (d) each as the independent implementation says: {matches} match, {nones} none,");
+    println!("{} refused (by number, {}).", refused.iter().sum::<usize>(), numbers.join(", "));
+    println!("Sessions: {handed} events handed over, {verdicts} verdicts looked at; {queries} order queries.\n");
+}

@@ -1,0 +1,58 @@
+// The four that are compared, each from a pattern and a log as bytes to an outcome.
+use crate::decode::{self, Operation, Step};
+use crate::ffi::{self, Session};
+use crate::patterntrack;
+use crate::verdict::{Outcome, Refusal};
+
+pub type Contestant = fn(&[u8], &[u8]) -> Outcome;
+
+/// In the order of the table's columns.
+pub const ALL: [(&str, Contestant); 4] = [("a", run), ("b", patterntrack::run), ("c", floor), ("d", by_session)];
+
+/// (a) The proved run, from bytes.
+fn run(pattern: &[u8], log: &[u8]) -> Outcome {
+    ffi::run(pattern, log).outcome
+}
+
+/// (c) Every check of the log; the pattern is not looked at.
+fn floor(_: &[u8], log: &[u8]) -> Outcome {
+    decode::floor(log)
+}
+
+/// The byte, the object and the height of an operation, as a session takes them.
+#[inline(always)]
+fn numbers(operation: Operation) -> (u8, u16, i32) {
+    match operation {
+        Operation::Read { variable } => (1, variable as u16, 0),
+        Operation::Write { variable, height } => (2, variable as u16, height),
+        Operation::Acquire { lock } => (3, lock as u16, 0),
+        Operation::Release { lock } => (4, lock as u16, 0),
+        Operation::Fork { child } => (5, child as u16, 0),
+        Operation::Join { child } => (6, child as u16, 0),
+        Operation::Mark { mark } => (7, mark, 0),
+    }
+}
+
+/// (d) The proved session: each command is taken apart by its form here, and handed to the session as one event.
+#[inline(never)]
+fn by_session(pattern: &[u8], log: &[u8]) -> Outcome {
+    let (mut session, answer) = Session::open(pattern);
+    if let Err(refusal) = answer {
+        return Outcome::PatternRefused(refusal);
+    }
+    let mut at = 0;
+    loop {
+        match decode::command_at(log, at) {
+            Step::Command { event, next } => {
+                let (operation, object, height) = numbers(event.operation);
+                let number = session.take(event.thread, operation, object, height);
+                if number != 0 {
+                    return Outcome::LogRefused(Refusal { number, offset: at });
+                }
+                at = next;
+            }
+            Step::End => return session.verdict().outcome,
+            Step::Refused(refusal) => return Outcome::LogRefused(refusal),
+        }
+    }
+}

@@ -1,0 +1,139 @@
+// The functions of the proved static library, declared as its C header has them, with one safe wrapper each.
+use crate::verdict::{found, Judged, Outcome, Refusal, SLOTS};
+
+#[repr(C)]
+struct Judgement {
+    kind: u8,
+    number: u8,
+    events: [u16; SLOTS],
+    count: usize,
+    offset: usize,
+}
+
+#[repr(C)]
+struct Ordering {
+    kind: u8,
+    number: u8,
+    offset: usize,
+}
+
+#[repr(C)]
+struct Answer {
+    number: u8,
+    offset: usize,
+}
+
+/// A session as the library lays it out.
+#[repr(C)]
+#[derive(Clone, PartialEq, Eq)]
+pub struct Session {
+    clocks: [u16; 704],
+    table: [u16; 512],
+    counts: [u16; 2],
+    pattern: [u8; 21],
+    state: [u8; 24],
+}
+
+#[repr(C)]
+struct Opening {
+    number: u8,
+    offset: usize,
+    slots: usize,
+    session: Session,
+}
+
+const _: () = assert!(size_of::<Session>() == 2482 && size_of::<Opening>() == 2512);
+
+extern "C" {
+    fn bilguzor_run(pattern: *const u8, pattern_size: usize, log: *const u8, log_size: usize) -> Judgement;
+    fn bilguzor_order(log: *const u8, log_size: usize, first: usize, second: usize) -> Ordering;
+    fn bilguzor_open(pattern: *const u8, pattern_size: usize) -> Opening;
+    fn bilguzor_take(
+        clocks: *mut u16,
+        table: *mut u16,
+        counts: *mut u16,
+        pattern: *const u8,
+        state: *mut u8,
+        thread: u32,
+        operation: u32,
+        object: u32,
+        height: i32,
+    ) -> Answer;
+    fn bilguzor_verdict(table: *const u16, counts: *const u16, pattern: *const u8) -> Judgement;
+}
+
+fn judged(j: Judgement) -> Judged {
+    let refusal = Refusal {
+        number: j.number,
+        offset: j.offset,
+    };
+    let outcome = match j.kind {
+        0 | 1 => found(j.count),
+        2 => Outcome::PatternRefused(refusal),
+        _ => Outcome::LogRefused(refusal),
+    };
+    Judged {
+        outcome,
+        numbers: j.events,
+    }
+}
+
+/// A run over a whole log.
+pub fn run(pattern: &[u8], log: &[u8]) -> Judged {
+    // Safe: both slices are lent for the call with their lengths, and the library only reads them.
+    judged(unsafe { bilguzor_run(pattern.as_ptr(), pattern.len(), log.as_ptr(), log.len()) })
+}
+
+/// Whether event `first` of the log comes before event `second` or is it.
+pub fn order(log: &[u8], first: usize, second: usize) -> Result<bool, Refusal> {
+    // Safe: the slice is lent for the call with its length, and the library only reads it.
+    let answer = unsafe { bilguzor_order(log.as_ptr(), log.len(), first, second) };
+    match answer.kind {
+        0 => Ok(false),
+        1 => Ok(true),
+        _ => Err(Refusal {
+            number: answer.number,
+            offset: answer.offset,
+        }),
+    }
+}
+
+impl Session {
+    /// A session on the pattern, on the lone slot where it is refused; how many slots it has, or the refusal.
+    pub fn open(pattern: &[u8]) -> (Session, Result<usize, Refusal>) {
+        // Safe: the slice is lent for the call with its length, and the library only reads it.
+        let opening = unsafe { bilguzor_open(pattern.as_ptr(), pattern.len()) };
+        let refusal = Refusal {
+            number: opening.number,
+            offset: opening.offset,
+        };
+        let answer = if opening.number == 0 { Ok(opening.slots) } else { Err(refusal) };
+        (opening.session, answer)
+    }
+
+    /// Hands over one event: 0 where it is taken, else the number of its refusal.
+    #[inline(always)]
+    pub fn take(&mut self, thread: u8, operation: u8, object: u16, height: i32) -> u8 {
+        // Safe: the parts are arrays of the sizes that the library was compiled with, no two overlap, and they came from an opening.
+        let answer = unsafe {
+            bilguzor_take(
+                self.clocks.as_mut_ptr(),
+                self.table.as_mut_ptr(),
+                self.counts.as_mut_ptr(),
+                self.pattern.as_ptr(),
+                self.state.as_mut_ptr(),
+                thread as u32,
+                operation as u32,
+                object as u32,
+                height,
+            )
+        };
+        answer.number
+    }
+
+    /// What the session has found in the events taken so far.
+    pub fn verdict(&self) -> Judged {
+        // Safe: as above, and the library only reads the parts.
+        judged(unsafe { bilguzor_verdict(self.table.as_ptr(), self.counts.as_ptr(), self.pattern.as_ptr()) })
+    }
+}

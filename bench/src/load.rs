@@ -1,0 +1,234 @@
+// The inputs that are timed: three loads, each with patterns of 1, 3 and 5 slots that match late or never.
+use crate::verdict::EVENTS;
+
+/// A pattern and a log, both as bytes.
+pub struct Input {
+    pub load: &'static str,
+    pub slots: usize,
+    pub ending: &'static str,
+    pub pattern: Vec<u8>,
+    pub log: Vec<u8>,
+    pub events: usize,
+}
+
+pub const LOADS: [&str; 3] = ["Note 11", "dense", "locks"];
+pub const SIZES: [usize; 3] = [1, 3, 5];
+pub const ENDINGS: [&str; 2] = ["late", "never"];
+
+/// The mark of every pattern's last slot. It is passed by thread 0 in the last event of a log that matches late, and by no other event.
+const PLANTED: u16 = 1000;
+
+/// A row of bytes, command by command.
+#[derive(Default)]
+pub struct Bytes(pub Vec<u8>);
+
+impl Bytes {
+    /// A command with one-byte operands.
+    pub fn plain(&mut self, op: u8, thread: u8, object: u8) {
+        self.0.extend([op, thread, object]);
+    }
+
+    pub fn write(&mut self, thread: u8, variable: u8, height: i32) {
+        self.plain(2, thread, variable);
+        self.0.extend(height.to_le_bytes());
+    }
+
+    pub fn mark(&mut self, thread: u8, mark: u16) {
+        self.0.extend([7, thread]);
+        self.0.extend(mark.to_le_bytes());
+    }
+
+    pub fn close(mut self) -> Vec<u8> {
+        self.0.push(0);
+        self.0
+    }
+}
+
+/// The generator of Note 11: one step per event.
+pub struct Steps(pub u32);
+
+impl Steps {
+    pub fn next(&mut self) -> u32 {
+        self.0 = self.0.wrapping_mul(1664525).wrapping_add(1013904223);
+        self.0
+    }
+
+    /// A number below `n` from the high bits of one step.
+    pub fn below(&mut self, n: u32) -> u32 {
+        ((self.next() as u64 * n as u64) >> 32) as u32
+    }
+}
+
+/// The load of Note 11, not closed.
+fn note_11_events(seed: u32, count: usize) -> Bytes {
+    let mut steps = Steps(seed);
+    let mut log = Bytes::default();
+    for _ in 0..count {
+        let s = steps.next();
+        let thread = (s >> 30) as u8;
+        let object = (s >> 25 & 7) as u8;
+        match s >> 28 & 3 {
+            0 => log.plain(1, thread, object),
+            1 => log.write(thread, object, (s & 4095) as i32 - 2048),
+            _ => log.mark(thread, object as u16),
+        }
+    }
+    log
+}
+
+/// The load of Note 11 as a whole log.
+pub fn note_11(seed: u32, count: usize) -> Vec<u8> {
+    note_11_events(seed, count).close()
+}
+
+/// The slots before the planted one, the last `size - 1` of four.
+fn pattern(load: &str, size: usize) -> Vec<u8> {
+    let mut slots: [Bytes; 4] = Default::default();
+    let [a, b, c, d] = &mut slots;
+    match load {
+        "locks" => {
+            a.plain(3, 1, 3);
+            b.plain(1, 2, 2);
+            c.plain(2, 3, 1);
+            d.mark(4, 4);
+        }
+        _ => {
+            a.mark(0, 1);
+            b.plain(2, 1, 2);
+            c.plain(1, 2, 3);
+            d.mark(3, 4);
+        }
+    }
+    let mut whole = Bytes::default();
+    for slot in &slots[5 - size..] {
+        whole.0.extend(&slot.0);
+    }
+    whole.mark(0, PLANTED);
+    whole.close()
+}
+
+/// Nine of ten events fit a slot before the last one; the rest are reads and writes by any thread.
+fn dense_events(size: usize, count: usize) -> Bytes {
+    let mut steps = Steps(7);
+    let mut log = Bytes::default();
+    for _ in 0..count {
+        let thread = steps.below(4) as u8;
+        let height = steps.below(4096) as i32 - 2048;
+        if steps.below(10) == 0 {
+            match steps.below(2) {
+                0 => log.plain(1, thread, 8 + steps.below(8) as u8),
+                _ => log.write(thread, 8 + steps.below(8) as u8, height),
+            }
+            continue;
+        }
+        match 5 - size as u32 + steps.below(size as u32 - 1) {
+            0 => log.mark(0, 1),
+            1 => log.write(1, 2, height),
+            2 => log.plain(1, 2, 3),
+            _ => log.mark(3, 4),
+        }
+    }
+    log
+}
+
+/// A pattern of one slot has no slot before the last, so there the dense load is that of three slots.
+fn dense(size: usize, count: usize) -> Bytes {
+    dense_events(size.max(3), count)
+}
+
+/// Eight threads under the rules: threads 4 to 7 are forked by 0 one after another and joined near the end, locks are held for a few events.
+struct Crew {
+    steps: Steps,
+    held: [Option<u8>; 8],
+    free: [bool; 16],
+    running: u8,
+}
+
+impl Crew {
+    /// One event of a thread that runs: it takes a lock, gives it back, or does its work.
+    fn act(&mut self, log: &mut Bytes) {
+        let thread = self.steps.below(self.running as u32) as u8;
+        let lock = self.steps.below(16) as u8;
+        match (self.held[thread as usize], self.steps.below(4)) {
+            (Some(held), 0) => {
+                log.plain(4, thread, held);
+                self.held[thread as usize] = None;
+                self.free[held as usize] = true;
+            }
+            (None, 0 | 1) if self.free[lock as usize] => {
+                log.plain(3, thread, lock);
+                self.held[thread as usize] = Some(lock);
+                self.free[lock as usize] = false;
+            }
+            _ => self.work(thread, log),
+        }
+    }
+
+    fn work(&mut self, thread: u8, log: &mut Bytes) {
+        let object = self.steps.below(8) as u8;
+        match self.steps.below(4) {
+            0 | 1 => log.plain(1, thread, object),
+            2 => log.write(thread, object, self.steps.below(4096) as i32 - 2048),
+            _ => log.mark(thread, object as u16),
+        }
+    }
+}
+
+fn locks(count: usize) -> Bytes {
+    let mut log = Bytes::default();
+    let mut crew = Crew {
+        steps: Steps(11),
+        held: [None; 8],
+        free: [true; 16],
+        running: 4,
+    };
+    let part = count / 16 + 1;
+    for n in 1..=count {
+        let due = n % part == 0;
+        if due && n / part <= 4 {
+            log.plain(5, 0, crew.running);
+            crew.running += 1;
+        } else if due && n / part >= 12 && crew.running > 4 {
+            crew.running -= 1;
+            log.plain(6, 0, crew.running);
+        } else {
+            crew.act(&mut log);
+        }
+    }
+    log
+}
+
+/// One input: `count` events, of which the last is the planted mark where the ending is late.
+pub fn input(load: &'static str, slots: usize, ending: &'static str, count: usize) -> Input {
+    let late = ending == "late";
+    let before = count - usize::from(late);
+    let mut log = match load {
+        "Note 11" => note_11_events(0, before),
+        "dense" => dense(slots, before),
+        _ => locks(before),
+    };
+    if late {
+        log.mark(0, PLANTED);
+    }
+    Input {
+        load,
+        slots,
+        ending,
+        pattern: pattern(load, slots),
+        log: log.close(),
+        events: count,
+    }
+}
+
+/// Every input of the table.
+pub fn inputs() -> Vec<Input> {
+    let mut all = Vec::new();
+    for load in LOADS {
+        for slots in SIZES {
+            for ending in ENDINGS {
+                all.push(input(load, slots, ending, EVENTS));
+            }
+        }
+    }
+    all
+}

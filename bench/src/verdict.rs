@@ -1,0 +1,35 @@
+// What a contestant answers about a pattern and a log.
+
+pub const THREADS: usize = 8;
+pub const SLOTS: usize = 5;
+pub const EVENTS: usize = 65535;
+
+/// A refusal's number and offset.
+#[derive(Clone, Copy, PartialEq, Eq, Debug)]
+pub struct Refusal {
+    pub number: u8,
+    pub offset: usize,
+}
+
+#[derive(Clone, Copy, PartialEq, Eq, Debug)]
+pub enum Outcome {
+    Match { count: usize },
+    None,
+    PatternRefused(Refusal),
+    LogRefused(Refusal),
+}
+
+/// The outcome, with the event named for each slot (0 where there is none).
+#[derive(Clone, Copy, PartialEq, Eq, Debug)]
+pub struct Judged {
+    pub outcome: Outcome,
+    pub numbers: [u16; SLOTS],
+}
+
+/// Match or none by the count, which is 0 without a match.
+pub fn found(count: usize) -> Outcome {
+    if count == 0 {
+        return Outcome::None;
+    }
+    Outcome::Match { count }
+}
