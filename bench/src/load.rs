@@ -1,4 +1,4 @@
-// The inputs that are timed: three loads, each with patterns of 1, 3 and 5 slots that match late or never.
+// The inputs that are timed: four loads, each with patterns of 1, 3 and 5 slots that match late or never.
 use crate::verdict::EVENTS;
 
 /// A pattern and a log, both as bytes.
@@ -11,11 +11,11 @@ pub struct Input {
     pub events: usize,
 }
 
-pub const LOADS: [&str; 3] = ["Note 11", "dense", "locks"];
+pub const LOADS: [&str; 4] = ["Note 11", "dense", "staged", "locks"];
 pub const SIZES: [usize; 3] = [1, 3, 5];
 pub const ENDINGS: [&str; 2] = ["late", "never"];
 
-/// The mark of every pattern's last slot. It is passed by thread 0 in the last event of a log that matches late, and by no other event.
+/// The mark of every pattern's last slot. But for the staged load, a log that matches late passes it in its last event alone, and one that never matches passes it nowhere.
 const PLANTED: u16 = 1000;
 
 /// A row of bytes, command by command.
@@ -81,59 +81,75 @@ pub fn note_11(seed: u32, count: usize) -> Vec<u8> {
     note_11_events(seed, count).close()
 }
 
-/// The slots before the planted one, the last `size - 1` of four.
+/// Puts the event of a slot, counted from 0 among five. A pattern has the last ones.
+fn put_slot(load: &str, slot: usize, height: i32, bytes: &mut Bytes) {
+    let write = |bytes: &mut Bytes, thread, variable| match height {
+        i32::MIN => bytes.plain(2, thread, variable),
+        _ => bytes.write(thread, variable, height),
+    };
+    match (load, slot) {
+        ("locks", 0) => bytes.plain(3, 1, 3),
+        ("locks", 1) => bytes.plain(1, 2, 2),
+        ("locks", 2) => write(bytes, 3, 1),
+        ("locks", 3) => bytes.mark(4, 4),
+        (_, 0) => bytes.mark(0, 1),
+        (_, 1) => write(bytes, 1, 2),
+        (_, 2) => bytes.plain(1, 2, 3),
+        (_, 3) => bytes.mark(3, 4),
+        _ => bytes.mark(4, PLANTED),
+    }
+}
+
 fn pattern(load: &str, size: usize) -> Vec<u8> {
-    let mut slots: [Bytes; 4] = Default::default();
-    let [a, b, c, d] = &mut slots;
-    match load {
-        "locks" => {
-            a.plain(3, 1, 3);
-            b.plain(1, 2, 2);
-            c.plain(2, 3, 1);
-            d.mark(4, 4);
-        }
-        _ => {
-            a.mark(0, 1);
-            b.plain(2, 1, 2);
-            c.plain(1, 2, 3);
-            d.mark(3, 4);
-        }
-    }
     let mut whole = Bytes::default();
-    for slot in &slots[5 - size..] {
-        whole.0.extend(&slot.0);
+    for slot in 5 - size..5 {
+        put_slot(load, slot, i32::MIN, &mut whole);
     }
-    whole.mark(0, PLANTED);
     whole.close()
 }
 
-/// Nine of ten events fit a slot before the last one; the rest are reads and writes by any thread.
-fn dense_events(size: usize, count: usize) -> Bytes {
+/// Nine of ten events fit one of the slots given; the rest are reads and writes by any thread.
+fn dense_event(steps: &mut Steps, slots: &[usize], log: &mut Bytes) {
+    let height = steps.below(4096) as i32 - 2048;
+    if steps.below(10) > 0 {
+        return put_slot("dense", slots[steps.below(slots.len() as u32) as usize], height, log);
+    }
+    let thread = steps.below(5) as u8;
+    let variable = 8 + steps.below(8) as u8;
+    match steps.below(2) {
+        0 => log.plain(1, thread, variable),
+        _ => log.write(thread, variable, height),
+    }
+}
+
+/// Every slot but the last is filled again and again. A pattern of one slot has no other, so there the load is that of three slots.
+fn dense(size: usize, count: usize) -> Bytes {
     let mut steps = Steps(7);
     let mut log = Bytes::default();
+    let slots: Vec<usize> = (5 - size.max(3)..4).collect();
     for _ in 0..count {
-        let thread = steps.below(4) as u8;
-        let height = steps.below(4096) as i32 - 2048;
-        if steps.below(10) == 0 {
-            match steps.below(2) {
-                0 => log.plain(1, thread, 8 + steps.below(8) as u8),
-                _ => log.write(thread, 8 + steps.below(8) as u8, height),
-            }
-            continue;
-        }
-        match 5 - size as u32 + steps.below(size as u32 - 1) {
-            0 => log.mark(0, 1),
-            1 => log.write(1, 2, height),
-            2 => log.plain(1, 2, 3),
-            _ => log.mark(3, 4),
-        }
+        dense_event(&mut steps, &slots, &mut log);
     }
     log
 }
 
-/// A pattern of one slot has no slot before the last, so there the dense load is that of three slots.
-fn dense(size: usize, count: usize) -> Bytes {
-    dense_events(size.max(3), count)
+/// Every slot is filled again and again, and still there is no match: one stage per slot, in which that slot alone is not filled, and between two
+/// stages each of the five threads writes one variable twice, so that all events of a stage come before all events of the next.
+fn staged(size: usize, count: usize) -> Bytes {
+    let mut steps = Steps(7);
+    let mut log = Bytes::default();
+    let size = size.max(3);
+    let part = count / size + 1;
+    for n in 0..count {
+        let stage = 5 - size + n / part;
+        if n % part < 10 {
+            log.write((n % part % 5) as u8, 31, 0);
+            continue;
+        }
+        let slots: Vec<usize> = (5 - size..5).filter(|&slot| slot != stage).collect();
+        dense_event(&mut steps, &slots, &mut log);
+    }
+    log
 }
 
 /// Eight threads under the rules: threads 4 to 7 are forked by 0 one after another and joined near the end, locks are held for a few events.
@@ -198,17 +214,18 @@ fn locks(count: usize) -> Bytes {
     log
 }
 
-/// One input: `count` events, of which the last is the planted mark where the ending is late.
+/// One input: `count` events, of which the last fits the last slot where the ending is late.
 pub fn input(load: &'static str, slots: usize, ending: &'static str, count: usize) -> Input {
     let late = ending == "late";
     let before = count - usize::from(late);
     let mut log = match load {
         "Note 11" => note_11_events(0, before),
         "dense" => dense(slots, before),
+        "staged" => staged(slots, before),
         _ => locks(before),
     };
     if late {
-        log.mark(0, PLANTED);
+        log.mark(4, PLANTED);
     }
     Input {
         load,
@@ -220,13 +237,15 @@ pub fn input(load: &'static str, slots: usize, ending: &'static str, count: usiz
     }
 }
 
-/// Every input of the table.
+/// Every input of the table. A staged load with one slot would match at its first stage.
 pub fn inputs() -> Vec<Input> {
     let mut all = Vec::new();
     for load in LOADS {
         for slots in SIZES {
             for ending in ENDINGS {
-                all.push(input(load, slots, ending, EVENTS));
+                if load != "staged" || slots > 1 {
+                    all.push(input(load, slots, ending, EVENTS));
+                }
             }
         }
     }

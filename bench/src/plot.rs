@@ -21,10 +21,12 @@ struct Growth {
 
 fn measure(load: &'static str) -> Growth {
     let events: Vec<usize> = (1..=POINTS).map(|k| k * (EVENTS + 1) / POINTS - 1).collect();
-    let time = |&n: &usize| time::least(&load::input(load, 5, "never", n), time::ROUNDS).map(|ns| ns * n as f64 / 1e6);
+    let inputs: Vec<_> = events.iter().map(|&n| load::input(load, 5, "never", n)).collect();
+    let least = time::least(&inputs);
+    let times = events.iter().zip(least).map(|(&n, least)| least.map(|ns| ns * n as f64 / 1e6));
     Growth {
         load,
-        times: events.iter().map(time).collect(),
+        times: times.collect(),
         events,
     }
 }
@@ -86,7 +88,7 @@ impl Growth {
 
 /// Measures, prints how far the growth is from linear, and gives the drawing.
 pub fn growth() -> String {
-    let panels = [measure("Note 11"), measure("dense")];
+    let panels = [measure("Note 11"), measure("staged")];
     println!("\n| load, 5 slots, never | who | ns an event at {} events | at {EVENTS} | ratio |", (EVENTS + 1) / POINTS - 1);
     println!("|---|---|---|---|---|");
     panels.iter().for_each(Growth::say);

@@ -5,7 +5,7 @@ use crate::verdict::Outcome;
 use std::hint::black_box;
 use std::time::Instant;
 
-pub const ROUNDS: usize = 31;
+pub const ROUNDS: usize = 51;
 
 /// An input with the least time of each contestant, in ns an event.
 pub struct Row {
@@ -22,25 +22,27 @@ fn once(contestant: Contestant, input: &Input) -> f64 {
     spent.as_nanos() as f64
 }
 
-/// The least of many rounds. Each round starts with another contestant, so that none always follows the same one.
-pub fn least(input: &Input, rounds: usize) -> [f64; 4] {
-    let mut least = [f64::MAX; 4];
-    for round in 0..rounds {
-        for turn in 0..4 {
-            let who = (round + turn) % 4;
-            least[who] = least[who].min(once(contest::ALL[who].1, input));
+/// For each input the least time of each contestant, in ns an event. A round goes through all inputs, so that a noisy while of the machine falls on all
+/// of them; and it starts with another contestant than the last, so that none always follows the same one.
+pub fn least(inputs: &[Input]) -> Vec<[f64; 4]> {
+    let mut least = vec![[f64::MAX; 4]; inputs.len()];
+    for round in 0..ROUNDS {
+        for (input, least) in inputs.iter().zip(&mut least) {
+            for turn in 0..4 {
+                let who = (round + turn) % 4;
+                let time = once(contest::ALL[who].1, input) / input.events as f64;
+                least[who] = least[who].min(time);
+            }
         }
     }
-    least.map(|time| time / input.events as f64)
+    least
 }
 
 /// Every input of the table, timed.
 pub fn rows() -> Vec<Row> {
-    let timed = |input: Input| Row {
-        least: least(&input, ROUNDS),
-        input,
-    };
-    load::inputs().into_iter().map(timed).collect()
+    let inputs = load::inputs();
+    let least = least(&inputs);
+    inputs.into_iter().zip(least).map(|(input, least)| Row { input, least }).collect()
 }
 
 /// The table, as Markdown.
@@ -65,6 +67,7 @@ pub fn goals(rows: &[Row]) {
     let over_floor = worst(rows, "Note 11", 5, |[a, _, c, _]| a / c, f64::max);
     let ahead = worst(rows, "", 0, |[a, b, _, _]| b / a, f64::min);
     let dense = worst(rows, "dense", 5, |[a, b, _, _]| b / a, f64::min);
+    let staged = worst(rows, "staged", 5, |[a, b, _, _]| b / a, f64::min);
     let session = worst(rows, "Note 11", 0, |[a, _, _, d]| d / a, f64::max);
     let say = |held: bool| if held { "yes" } else { "NO" };
     println!("\n| goal | worst ratio in this run | reached |");
@@ -72,6 +75,7 @@ pub fn goals(rows: &[Row]) {
     println!("| (a) at most 2.2 times (c), Note 11, 5 slots | a/c {over_floor:.2} | {} |", say(over_floor <= 2.2));
     println!("| (a) below (b) on every input | b/a {ahead:.2} | {} |", say(ahead > 1.0));
     println!("| (a) at least 5 times as fast as (b), dense, 5 slots | b/a {dense:.2} | {} |", say(dense >= 5.0));
+    println!("| the same on the staged load, which is dense too | b/a {staged:.2} | {} |", say(staged >= 5.0));
     println!("| (d) at most 8 times (a), Note 11 | d/a {session:.2} | {} |", say(session <= 8.0));
 }
 
