@@ -136,7 +136,7 @@ impl Plan {
         for &k in &keys {
             if !plan.labels.contains(&k) {
                 plan.labels.push(k);
-                plan.nodes.push(Default::default());
+                plan.nodes.push(std::array::from_fn(|_| Vec::with_capacity(MOST)));
             }
         }
         plan.grow(&keys, &mut [0; SLOTS + 1], &mut Vec::new(), 0);
