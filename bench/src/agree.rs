@@ -89,12 +89,7 @@ fn expected(pattern: &[u8], log: &[u8]) -> Expected {
         (_, Err(refusal)) => Outcome::LogRefused(refusal),
         (Ok(slots), Ok(_)) => found(count(slots, &list, &before)),
     };
-    Expected {
-        outcome,
-        slots: slots.unwrap_or_default(),
-        log: list,
-        before,
-    }
+    Expected { outcome, slots: slots.unwrap_or_default(), log: list, before }
 }
 
 fn count_of(outcome: Outcome) -> usize {
@@ -203,10 +198,7 @@ fn event(steps: &mut Steps, threads: u32) -> Event {
         5 | 6 => steps.below(8) as u16,
         _ => steps.below(2) as u16,
     };
-    Event {
-        label: Label { op, thread, object },
-        height: steps.next() as i32,
-    }
+    Event { label: Label { op, thread, object }, height: steps.next() as i32 }
 }
 
 /// A list of accepted events.
@@ -361,10 +353,7 @@ fn examples() {
     assert_eq!(load::note_11(0, 1), [7, 0, 6, 0, 0]);
     let pattern = [2, 0, 0, 7, 1, 11, 0, 0];
     let log = [7, 1, 11, 0, 2, 0, 0, 0x70, 0xFE, 0xFF, 0xFF, 0];
-    let judged = Judged {
-        outcome: Outcome::Match { count: 2 },
-        numbers: [2, 1, 0, 0, 0],
-    };
+    let judged = Judged { outcome: Outcome::Match { count: 2 }, numbers: [2, 1, 0, 0, 0] };
     assert_eq!(ffi::run(&pattern, &log), judged);
 }
 

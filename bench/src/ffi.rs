@@ -63,19 +63,13 @@ extern "C" {
 }
 
 fn judged(j: Judgement) -> Judged {
-    let refusal = Refusal {
-        number: j.number,
-        offset: j.offset,
-    };
+    let refusal = Refusal { number: j.number, offset: j.offset };
     let outcome = match j.kind {
         0 | 1 => found(j.count),
         2 => Outcome::PatternRefused(refusal),
         _ => Outcome::LogRefused(refusal),
     };
-    Judged {
-        outcome,
-        numbers: j.events,
-    }
+    Judged { outcome, numbers: j.events }
 }
 
 /// A run over a whole log.
@@ -91,10 +85,7 @@ pub fn order(log: &[u8], first: usize, second: usize) -> Result<bool, Refusal> {
     match answer.kind {
         0 => Ok(false),
         1 => Ok(true),
-        _ => Err(Refusal {
-            number: answer.number,
-            offset: answer.offset,
-        }),
+        _ => Err(Refusal { number: answer.number, offset: answer.offset }),
     }
 }
 
@@ -103,10 +94,7 @@ impl Session {
     pub fn open(pattern: &[u8]) -> (Session, Result<usize, Refusal>) {
         // Safe: the slice is lent for the call with its length, and the library only reads it.
         let opening = unsafe { bilguzor_open(pattern.as_ptr(), pattern.len()) };
-        let refusal = Refusal {
-            number: opening.number,
-            offset: opening.offset,
-        };
+        let refusal = Refusal { number: opening.number, offset: opening.offset };
         let answer = if opening.number == 0 { Ok(opening.slots) } else { Err(refusal) };
         (opening.session, answer)
     }

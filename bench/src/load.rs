@@ -15,7 +15,8 @@ pub const LOADS: [&str; 4] = ["Note 11", "dense", "staged", "locks"];
 pub const SIZES: [usize; 3] = [1, 3, 5];
 pub const ENDINGS: [&str; 2] = ["late", "never"];
 
-/// The mark of every pattern's last slot. But for the staged load, a log that matches late passes it in its last event alone, and one that never matches passes it nowhere.
+/// The mark of every pattern's last slot. But for the staged load, a log that matches late passes it in its last event alone, and one that
+/// never matches passes it nowhere.
 const PLANTED: u16 = 1000;
 
 /// A row of bytes, command by command.
@@ -133,8 +134,8 @@ fn dense(size: usize, count: usize) -> Bytes {
     log
 }
 
-/// Every slot is filled again and again, and still there is no match: one stage per slot, in which that slot alone is not filled, and between two
-/// stages each of the five threads writes one variable twice, so that all events of a stage come before all events of the next.
+/// Every slot is filled again and again, and still there is no match: one stage per slot, in which that slot alone is not filled, and
+/// between two stages each of the five threads writes one variable twice, so that all events of a stage come before all of the next.
 fn staged(size: usize, count: usize) -> Bytes {
     let mut steps = Steps(7);
     let mut log = Bytes::default();
@@ -152,7 +153,8 @@ fn staged(size: usize, count: usize) -> Bytes {
     log
 }
 
-/// Eight threads under the rules: threads 4 to 7 are forked by 0 one after another and joined near the end, locks are held for a few events.
+/// Eight threads under the rules: threads 4 to 7 are forked by 0 one after another and joined near the end, locks are held for a few
+/// events.
 struct Crew {
     steps: Steps,
     held: [Option<u8>; 8],
@@ -192,12 +194,7 @@ impl Crew {
 
 fn locks(count: usize) -> Bytes {
     let mut log = Bytes::default();
-    let mut crew = Crew {
-        steps: Steps(11),
-        held: [None; 8],
-        free: [true; 16],
-        running: 4,
-    };
+    let mut crew = Crew { steps: Steps(11), held: [None; 8], free: [true; 16], running: 4 };
     let part = count / 16 + 1;
     for n in 1..=count {
         let due = n % part == 0;
@@ -227,14 +224,7 @@ pub fn input(load: &'static str, slots: usize, ending: &'static str, count: usiz
     if late {
         log.mark(4, PLANTED);
     }
-    Input {
-        load,
-        slots,
-        ending,
-        pattern: pattern(load, slots),
-        log: log.close(),
-        events: count,
-    }
+    Input { load, slots, ending, pattern: pattern(load, slots), log: log.close(), events: count }
 }
 
 /// Every input of the table. A staged load with one slot would match at its first stage.

@@ -71,12 +71,7 @@ fn below(a: &Clock, b: &Clock) -> bool {
 
 impl Clocks {
     fn new() -> Clocks {
-        Clocks {
-            threads: [[0; THREADS]; 8],
-            reads: [[0; THREADS]; 32],
-            writes: [[0; THREADS]; 32],
-            locks: [[0; THREADS]; 16],
-        }
+        Clocks { threads: [[0; THREADS]; 8], reads: [[0; THREADS]; 32], writes: [[0; THREADS]; 32], locks: [[0; THREADS]; 16] }
     }
 
     /// The clock of the next event.
@@ -128,11 +123,7 @@ fn key(e: Event) -> u32 {
 impl Plan {
     fn new(pattern: &[Label]) -> Plan {
         let keys: Vec<u32> = pattern.iter().map(|s| (s.op as u32) << 24 | (s.thread as u32) << 16 | s.object as u32).collect();
-        let mut plan = Plan {
-            slots: keys.len(),
-            labels: Vec::new(),
-            nodes: Vec::new(),
-        };
+        let mut plan = Plan { slots: keys.len(), labels: Vec::new(), nodes: Vec::new() };
         for &k in &keys {
             if !plan.labels.contains(&k) {
                 plan.labels.push(k);
@@ -164,10 +155,7 @@ impl Plan {
 
 impl<const N: usize> Level<N> {
     fn new() -> Level<N> {
-        Level {
-            present: [false; MOST],
-            tuples: [[[0; THREADS]; N]; MOST],
-        }
+        Level { present: [false; MOST], tuples: [[[0; THREADS]; N]; MOST] }
     }
 
     /// Whether the node's parent has a tuple that stays admissible with the event of clock `f` put last.

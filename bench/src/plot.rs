@@ -24,11 +24,7 @@ fn measure(load: &'static str) -> Growth {
     let inputs: Vec<_> = events.iter().map(|&n| load::input(load, 5, "never", n)).collect();
     let least = time::least(&inputs);
     let times = events.iter().zip(least).map(|(&n, least)| least.map(|ns| ns * n as f64 / 1e6));
-    Growth {
-        load,
-        times: times.collect(),
-        events,
-    }
+    Growth { load, times: times.collect(), events }
 }
 
 impl Growth {
@@ -93,7 +89,8 @@ pub fn growth() -> String {
     println!("|---|---|---|---|---|");
     panels.iter().for_each(Growth::say);
     let (wide, high) = (2.0 * (LEFT + WIDTH) + 40.0, TOP + HEIGHT + 50.0);
-    let mut svg = format!("<svg xmlns=\"http://www.w3.org/2000/svg\" viewBox=\"0 0 {wide} {high}\" font-family=\"sans-serif\" font-size=\"12\">\n");
+    let mut svg =
+        format!("<svg xmlns=\"http://www.w3.org/2000/svg\" viewBox=\"0 0 {wide} {high}\" font-family=\"sans-serif\" font-size=\"12\">\n");
     svg += &format!("<rect width=\"{wide}\" height=\"{high}\" fill=\"white\"/>\n");
     for (n, panel) in panels.iter().enumerate() {
         svg += &panel.panel(n as f64 * (LEFT + WIDTH + 20.0));

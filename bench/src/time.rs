@@ -22,8 +22,8 @@ fn once(contestant: Contestant, input: &Input) -> f64 {
     spent.as_nanos() as f64
 }
 
-/// For each input the least time of each contestant, in ns an event. A round goes through all inputs, so that a noisy while of the machine falls on all
-/// of them; and it starts with another contestant than the last, so that none always follows the same one.
+/// For each input the least time of each contestant, in ns an event. A round goes through all inputs, so that a noisy while of the machine
+/// falls on all of them; and it starts with another contestant than the last, so that none always follows the same one.
 pub fn least(inputs: &[Input]) -> Vec<[f64; 4]> {
     let mut least = vec![[f64::MAX; 4]; inputs.len()];
     for round in 0..ROUNDS {
