@@ -340,6 +340,8 @@ fn patterns(totals: &mut Totals, steps: &mut Steps) {
 /// The inputs that are timed, and logs on both sides of the event limit.
 fn whole(totals: &mut Totals) {
     for input in load::inputs() {
+        let count = if input.ending == "late" { input.events } else { 0 };
+        assert_eq!(ffi::run(&input.pattern, &input.log).outcome, found(count), "{} {} {}", input.load, input.slots, input.ending);
         totals.hold(&input.pattern, &input.log);
     }
     for (seed, events) in [(0, EVENTS), (1, EVENTS), (0, EVENTS + 1), (1, EVENTS + 1)] {

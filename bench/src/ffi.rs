@@ -29,7 +29,8 @@ struct Answer {
 pub struct Session {
     clocks: [u16; 704],
     table: [u16; 512],
-    counts: [u16; 2],
+    taken: u16,
+    count: u16,
     pattern: [u8; 21],
     state: [u8; 24],
 }
@@ -51,7 +52,8 @@ extern "C" {
     fn bilguzor_take(
         clocks: *mut u16,
         table: *mut u16,
-        counts: *mut u16,
+        taken: *mut u16,
+        count: *mut u16,
         pattern: *const u8,
         state: *mut u8,
         thread: u32,
@@ -59,7 +61,7 @@ extern "C" {
         object: u32,
         height: i32,
     ) -> Answer;
-    fn bilguzor_verdict(table: *const u16, counts: *const u16, pattern: *const u8) -> Judgement;
+    fn bilguzor_verdict(table: *const u16, count: u16, pattern: *const u8) -> Judgement;
 }
 
 fn judged(j: Judgement) -> Judged {
@@ -107,7 +109,8 @@ impl Session {
             bilguzor_take(
                 self.clocks.as_mut_ptr(),
                 self.table.as_mut_ptr(),
-                self.counts.as_mut_ptr(),
+                &mut self.taken,
+                &mut self.count,
                 self.pattern.as_ptr(),
                 self.state.as_mut_ptr(),
                 thread as u32,
@@ -122,6 +125,6 @@ impl Session {
     /// What the session has found in the events taken so far.
     pub fn verdict(&self) -> Judged {
         // Safe: as above, and the library only reads the parts.
-        judged(unsafe { bilguzor_verdict(self.table.as_ptr(), self.counts.as_ptr(), self.pattern.as_ptr()) })
+        judged(unsafe { bilguzor_verdict(self.table.as_ptr(), self.count, self.pattern.as_ptr()) })
     }
 }

@@ -153,8 +153,8 @@ fn staged(size: usize, count: usize) -> Bytes {
     log
 }
 
-/// Eight threads under the rules: threads 4 to 7 are forked by 0 one after another and joined near the end, locks are held for a few
-/// events.
+/// Eight threads under the rules: threads 4 to 7 are forked by 0 one after another, 5 to 7 are joined near the end, locks are held for a
+/// few events.
 struct Crew {
     steps: Steps,
     held: [Option<u8>; 8],
@@ -201,7 +201,7 @@ fn locks(count: usize) -> Bytes {
         if due && n / part <= 4 {
             log.plain(5, 0, crew.running);
             crew.running += 1;
-        } else if due && n / part >= 12 && crew.running > 4 {
+        } else if due && n / part >= 12 && crew.running > 5 {
             crew.running -= 1;
             log.plain(6, 0, crew.running);
         } else {

@@ -26,7 +26,10 @@ fn once(words: &[String]) {
 }
 
 fn table() {
-    println!("ns an event, the least of {} runs, the four in turns on the same buffers; each call sets up its own state,", time::ROUNDS);
+    println!(
+        "ns of processor time an event, the least of {} runs, the four in turns on the same buffers; each call sets up its own state,",
+        time::ROUNDS
+    );
     println!("nothing else is cleared. {} events. (d) is handed one event at a time.\n", verdict::EVENTS);
     let rows = time::rows();
     time::print(&rows);
