@@ -172,12 +172,13 @@ fn run_on(p: Pattern, log: &[u8]) -> Judged
         }
         let n = taken + 1;
         z.taken = n;
+        let here = at;
         at = next;
         if z.count != 0 {
             continue;
         }
         let stamp = clock::advance(&mut z.clocks, event);
-        if !table::wants(keys, event) {
+        if !table::wants(keys, command::key_at(log, here)) {
             continue;
         }
         table::offer(&mut z.table, slots, size, event, stamp, n as u16);

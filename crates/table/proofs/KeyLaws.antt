@@ -16,7 +16,8 @@ use Rattle.event.specs.Slots.{byteOf, objectOf, withoutHeight, sameOperation, f
 use Rattle.event.proofs.Tests.{by-test}
 use Rattle.clock.specs.declared.Stamp.{Stamp}
 use Rattle.table.specs.Table.{noSlot, placeBy, slotOffered, offeredDown, offered}
-use Rattle.table.specs.Keys.{keyOf, KeysOf, wantsTo, Idle}
+use Rattle.table.specs.Keys.{KeysOf, wantsTo, Idle}
+use Rattle.event.specs.Keys.{keyOf}
 
 fits-key : (s : Slot) (e : Event) → fits s e ≡ true → keyOf s ≡ keyOf (slotOf e)
 fits-key s e h =

@@ -1,6 +1,6 @@
 -- A number for each slot, equal to that of every event that fits it, by which an event is told at once to fit none.
 -- Assumes nothing.
-use Prim.Native.Nat.{ℕ, zero, suc, _+_, _*_, _<_}
+use Prim.Native.Nat.{ℕ, zero, suc, _<_}
 use mathlib.Core.Path.{_≡_}
 use mathlib.Core.Bool.{Bool, false, _||_}
 use mathlib.Core.List.{List}
@@ -9,14 +9,11 @@ use lib.ListN.{length, getD}
 use Rattle.event.specs.declared.Event.{Event}
 use Rattle.event.specs.declared.Slot.{Slot}
 use Rattle.event.specs.Limits.{slots}
-use Rattle.event.specs.Slots.{byteOf, objectOf}
+use Rattle.event.specs.Keys.{keyOf}
 use Rattle.clock.specs.declared.Stamp.{Stamp}
 use Rattle.table.specs.Table.{noSlot, offered}
 
--- operation, thread and object in one number
-abbrev pub keyOf : Slot → ℕ
-keyOf s = objectOf (s .operation) + 65536 * s .thread + 16777216 * byteOf (s .operation)
-
+-- a key for each place of a pattern
 pub record KeysOf (pattern : List Slot) (keys : List ℕ) : Type 0 where
   pub whole : length keys ≡ slots
   pub each : (j : ℕ) → j < slots → getD keys j 0 ≡ keyOf (getD pattern j noSlot)

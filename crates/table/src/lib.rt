@@ -7,16 +7,17 @@ ghost use mathlib.Core.Path.{_≡_};
 ghost use mathlib.Core.Logic.{_↔_};
 ghost use mathlib.Core.Bool.{true, false};
 ghost use mathlib.Core.List.{List, [], _∷_, _++_};
-ghost use Prim.Native.Nat.{_+_, _-_, _*_, _^_, _≤_, _<_};
+ghost use Prim.Native.Nat.{_+_, _-_, _*_, _^_, _%_, _≤_, _<_};
 ghost use lib.ListN.{length};
 ghost use Rattle.event.specs.declared.Event.{Event};
 ghost use Rattle.event.specs.declared.Slot.{Slot};
 ghost use Rattle.event.specs.Limits.{slots as slotLimit};
+ghost use Rattle.event.specs.Keys.{keyOf};
 ghost use Rattle.event.specs.Slots.{slotOf};
 ghost use Rattle.dependence.specs.Order.{HasMatch};
 ghost use Rattle.table.specs.Sets.{sets, width, size as tableSize};
 ghost use Rattle.table.specs.Table.{put, rowAt, roomIn, limitAt, limitsAfter, joined, setOffered, sweptTo, offered, freshTable, lastRow, foundIn, numbersIn};
-ghost use Rattle.table.specs.Keys.{keyOf, KeysOf, wantsTo, Idle};
+ghost use Rattle.table.specs.Keys.{KeysOf, wantsTo, Idle};
 ghost use Rattle.table.specs.Keeps.{Keeps, Follows, Numbers};
 
 // A row has the places of the slots, then their event numbers, and last whether there is a row.
@@ -90,12 +91,11 @@ pub fn keys(slots: [Slot; event::SLOTS]) -> [u32; event::SLOTS]
     r
 }
 
-// Whether the event may fit one of the slots that these keys are of. Offering another changes nothing.
-pub fn wants(keys: [u32; event::SLOTS], e: Event) -> bool
-    ensures exact { λ r. ⌜ r ≡ wantsTo slotLimit keys (keyOf (slotOf e)) ⌝ }
-    ensures idle { λ r. ⌜ ((slots : List Slot) → KeysOf slots keys → r ≡ false → Idle slots e) ⌝ }
+// Whether an event of this key may fit one of the slots that these keys are of. Offering another changes nothing.
+pub fn wants(keys: [u32; event::SLOTS], k: u32) -> bool
+    ensures exact { λ r. ⌜ r ≡ wantsTo slotLimit keys k ⌝ }
+    ensures idle { λ r. ⌜ ((slots : List Slot) (e : Event) → KeysOf slots keys → k ≡ keyOf (slotOf e) → r ≡ false → Idle slots e) ⌝ }
 {
-    let k = slot_key(event::slot_of(e));
     let mut any = false;
     for j in 0..event::SLOTS {
         any = any | (keys[j] == k);
@@ -120,9 +120,9 @@ fn slot_key(s: Slot) -> u32
 }
 
 fn key(thread: u8, byte: u8, object: u16) -> u32
-    ensures { λ r. ⌜ r ≡ object + 65536 * thread + 16777216 * byte ⌝ }
+    ensures { λ r. ⌜ r ≡ byte + 256 * thread + 65536 * (object % 256) ⌝ }
 {
-    object as u32 + 65536 * (thread as u32) + 16777216 * (byte as u32)
+    byte as u32 + 256 * (thread as u32) + 65536 * (object as u32 % 256)
 }
 
 // Takes one event, which has this stamp and number. One of a thread outside the limit, or a pattern of too many slots, leaves the table as it was.

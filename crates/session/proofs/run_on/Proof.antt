@@ -1,5 +1,3 @@
-use borrow.Author.Tests.{not-true}
-use Rattle.session.proofs.Described.{no-row}
 use Rattle.session.proofs.Running.{Running, started, ended, broke, turned-away, goes-on as still}
 use Rattle.session.proofs.Steps.{room, matched-is, searched-is, idle-is}
 use Rattle.log.specs.Whole.{GoodPattern, patternOf}
@@ -16,22 +14,10 @@ use native.Mathlib.Omega.{arith}
 use Prim.Native.Nat.{ℕ, _+_, _-_}
 use Rattle.table.specs.Keys.{KeysOf}
 use Rattle.table.specs.Table.{offered, foundIn}
+use Rattle.session.proofs.Described.{no-row}
+use borrow.Author.Tests.{not-true}
 use Rattle.session.proofs.run_on.Statement.{statement}
 use Rattle.session.proofs.run_on.Tie as tie
-use Rattle.session.proofs.run_on.Reads as reads
-use Rattle.session.proofs.run_on.Lts as lts
-use Rattle.clock.proofs.advance.Reads as advance-reads
-use Rattle.command.proofs.decode.Reads as decode-reads
-use Rattle.rules.proofs.admit.Reads as admit-reads
-use Rattle.session.proofs.Session.verdict.Reads as verdict-reads
-use Rattle.session.proofs.count_if.Reads as count-if-reads
-use Rattle.session.proofs.fresh.Reads as fresh-reads
-use Rattle.session.proofs.log_refused.Reads as log-refused-reads
-use Rattle.session.proofs.outcome_of.Reads as outcome-of-reads
-use Rattle.table.proofs.found.Reads as found-reads
-use Rattle.table.proofs.keys.Reads as keys-reads
-use Rattle.table.proofs.offer.Reads as offer-reads
-use Rattle.table.proofs.wants.Reads as wants-reads
 
 abbrev Inv-loop : tie.InvT-loop
 Inv-loop log z₀ slots size keys at₀ z at =
@@ -134,42 +120,45 @@ loop-again c =
 advance-requires : tie.Need-advance-requires Inv-loop μ-loop
 advance-requires c κs = search needs
 
+key-at-requires : tie.Need-key-at-requires Inv-loop μ-loop
+key-at-requires c κs = search needs
+
 wants-requires : tie.Need-wants-requires Inv-loop μ-loop
 wants-requires c κs = search needs
 
 loop-less-2 : tie.Need-loop-less-2 Inv-loop μ-loop
 loop-less-2 c =
-    let bytes = c .before .before .before .before .before .before .before .before .before .before .before .before .before .before .before .before .before .args .log .now in
-    let l = c .before .before .before .before .before .before .before .before .before .before .before .before .loop in
+    let bytes = c .before .before .before .before .before .before .before .before .before .before .before .before .before .before .before .before .before .before .args .log .now in
+    let l = c .before .before .before .before .before .before .before .before .before .before .before .before .before .loop in
     let z = l .z in
-    let s = c .before .before .before .before .before .before .before .before .before .step .given in
-    let q = sym (c .before .before .before .before .before .before .before .before .before .before .before .decode .ensures) ∙ ap decodedIs (s .1) in
+    let s = c .before .before .before .before .before .before .before .before .before .before .step .given in
+    let q = sym (c .before .before .before .before .before .before .before .before .before .before .before .before .decode .ensures) ∙ ap decodedIs (s .1) in
     let m = goes-on true bytes (l .at) (s .0 .0) (s .0 .1 .0) q in
     omega arith
 
 loop-again-2 : tie.Need-loop-again-2 Inv-loop μ-loop
 loop-again-2 c =
-    let bytes = c .before .before .before .before .before .before .before .before .before .before .before .before .before .before .before .before .before .args .log .now in
-    let l = c .before .before .before .before .before .before .before .before .before .before .before .before .loop in
+    let bytes = c .before .before .before .before .before .before .before .before .before .before .before .before .before .before .before .before .before .before .args .log .now in
+    let l = c .before .before .before .before .before .before .before .before .before .before .before .before .before .loop in
     let z = l .z in
-    let s = c .before .before .before .before .before .before .before .before .before .step .given in
-    let q = sym (c .before .before .before .before .before .before .before .before .before .before .before .decode .ensures) ∙ ap decodedIs (s .1) in
-    let r = c .before .before .before .before .before .before .admit .ensures in
-    let clocked = c .before .before .advance .ensures in
-    let idle = c .before .wants .ensures .1 _ (l .inv .2) (not-true _ (c .if3 .taken)) in (
+    let s = c .before .before .before .before .before .before .before .before .before .before .step .given in
+    let q = sym (c .before .before .before .before .before .before .before .before .before .before .before .before .decode .ensures) ∙ ap decodedIs (s .1) in
+    let r = c .before .before .before .before .before .before .before .admit .ensures in
+    let clocked = c .before .before .before .advance .ensures in
+    let idle = c .before .wants .ensures .1 _ (s .0 .0) (l .inv .2) (c .before .before .key-at .ensures .1 true (s .0 .0) (s .0 .1 .0) q) (not-true _ (c .if3 .taken)) in (
       l .inv .0,
       l .inv .1,
       l .inv .2,
-      λ ss g p. still ss bytes z (l .at) (l .inv .3 ss g p) (s .0 .0) (s .0 .1 .0) q (sym (r .0) ∙ c .before .before .before .before .before .if1 .left) _
-          (idle-is z (s .0 .0) _ (r .1 .0) _ _ (c .before .before .before .before .if2 .left) (clocked .0) (clocked .1 .0)
-          (rw (l .inv .0) at (idle (z .table) (z .pattern .size) (c .before .before .advance .result) (z .taken + 1)))
-          (no-row ss _ z (l .inv .3 ss g p .described) (c .before .before .before .before .if2 .left))),
+      λ ss g p. still ss bytes z (l .at) (l .inv .3 ss g p) (s .0 .0) (s .0 .1 .0) q (sym (r .0) ∙ c .before .before .before .before .before .before .if1 .left) _
+          (idle-is z (s .0 .0) _ (r .1 .0) _ _ (c .before .before .before .before .before .if2 .left) (clocked .0) (clocked .1 .0)
+          (rw (l .inv .0) at (idle (z .table) (z .pattern .size) (c .before .before .before .advance .result) (z .taken + 1)))
+          (no-row ss _ z (l .inv .3 ss g p .described) (c .before .before .before .before .before .if2 .left))),
     )
 
 cast-offer : tie.Need-cast-offer Inv-loop μ-loop
 cast-offer c =
-    let z = c .before .before .before .before .before .before .before .before .before .before .before .before .before .loop .z in
-    let r = room (z .state) (z .taken) (c .before .before .before .before .before .before .before .before .before .before .step .given .0 .0) (sym (c .before .before .before .before .before .before .before .admit .ensures .0) ∙ c .before .before .before .before .before .before .if1 .left) in
+    let z = c .before .before .before .before .before .before .before .before .before .before .before .before .before .before .loop .z in
+    let r = room (z .state) (z .taken) (c .before .before .before .before .before .before .before .before .before .before .before .step .given .0 .0) (sym (c .before .before .before .before .before .before .before .before .admit .ensures .0) ∙ c .before .before .before .before .before .before .before .if1 .left) in
     omega arith
 
 offer-requires : tie.Need-offer-requires Inv-loop μ-loop
@@ -183,28 +172,28 @@ count-if-requires c κs = search needs
 
 loop-less-3 : tie.Need-loop-less-3 Inv-loop μ-loop
 loop-less-3 c =
-    let bytes = c .before .before .before .before .before .before .before .before .before .before .before .before .before .before .before .before .before .before .before .before .before .before .before .args .log .now in
-    let l = c .before .before .before .before .before .before .before .before .before .before .before .before .before .before .before .before .before .before .loop in
+    let bytes = c .before .before .before .before .before .before .before .before .before .before .before .before .before .before .before .before .before .before .before .before .before .before .before .before .args .log .now in
+    let l = c .before .before .before .before .before .before .before .before .before .before .before .before .before .before .before .before .before .before .before .loop in
     let z = l .z in
-    let s = c .before .before .before .before .before .before .before .before .before .before .before .before .before .before .before .step .given in
-    let q = sym (c .before .before .before .before .before .before .before .before .before .before .before .before .before .before .before .before .before .decode .ensures) ∙ ap decodedIs (s .1) in
+    let s = c .before .before .before .before .before .before .before .before .before .before .before .before .before .before .before .before .step .given in
+    let q = sym (c .before .before .before .before .before .before .before .before .before .before .before .before .before .before .before .before .before .before .decode .ensures) ∙ ap decodedIs (s .1) in
     let m = goes-on true bytes (l .at) (s .0 .0) (s .0 .1 .0) q in
     omega arith
 
 loop-again-3 : tie.Need-loop-again-3 Inv-loop μ-loop
 loop-again-3 c =
-    let bytes = c .before .before .before .before .before .before .before .before .before .before .before .before .before .before .before .before .before .before .before .before .before .before .before .args .log .now in
-    let l = c .before .before .before .before .before .before .before .before .before .before .before .before .before .before .before .before .before .before .loop in
+    let bytes = c .before .before .before .before .before .before .before .before .before .before .before .before .before .before .before .before .before .before .before .before .before .before .before .before .args .log .now in
+    let l = c .before .before .before .before .before .before .before .before .before .before .before .before .before .before .before .before .before .before .before .loop in
     let z = l .z in
-    let s = c .before .before .before .before .before .before .before .before .before .before .before .before .before .before .before .step .given in
-    let q = sym (c .before .before .before .before .before .before .before .before .before .before .before .before .before .before .before .before .before .decode .ensures) ∙ ap decodedIs (s .1) in
-    let r = c .before .before .before .before .before .before .before .before .before .before .before .before .admit .ensures in
-    let clocked = c .before .before .before .before .before .before .before .before .advance .ensures in
+    let s = c .before .before .before .before .before .before .before .before .before .before .before .before .before .before .before .before .step .given in
+    let q = sym (c .before .before .before .before .before .before .before .before .before .before .before .before .before .before .before .before .before .before .decode .ensures) ∙ ap decodedIs (s .1) in
+    let r = c .before .before .before .before .before .before .before .before .before .before .before .before .before .admit .ensures in
+    let clocked = c .before .before .before .before .before .before .before .before .before .advance .ensures in
     let offer = c .before .before .before .before .offer in
-    let offered-is = offer .ensures .0 ∙ ap₂ (λ (x : List Slot) (y : ℕ). offered (z .table) x y (s .0 .0) (c .before .before .before .before .before .before .before .before .advance .result) (z .taken + 1)) (l .inv .0) (l .inv .1) in
+    let offered-is = offer .ensures .0 ∙ ap₂ (λ (x : List Slot) (y : ℕ). offered (z .table) x y (s .0 .0) (c .before .before .before .before .before .before .before .before .before .advance .result) (z .taken + 1)) (l .inv .0) (l .inv .1) in
     let found-is = c .before .found .ensures .0 ∙ ap (foundIn (offer .last .0)) (l .inv .1) in
-    let e = searched-is z (s .0 .0) _ (r .1 .0) _ _ _ _ _ (c .before .before .before .before .before .before .before .before .before .before .if2 .left) (clocked .0) (clocked .1 .0) offered-is found-is (c .count-if .ensures) in
-    (l .inv .0, l .inv .1, l .inv .2, λ ss g p. still ss bytes z (l .at) (l .inv .3 ss g p) (s .0 .0) (s .0 .1 .0) q (sym (r .0) ∙ c .before .before .before .before .before .before .before .before .before .before .before .if1 .left) _ e)
+    let e = searched-is z (s .0 .0) _ (r .1 .0) _ _ _ _ _ (c .before .before .before .before .before .before .before .before .before .before .before .if2 .left) (clocked .0) (clocked .1 .0) offered-is found-is (c .count-if .ensures) in
+    (l .inv .0, l .inv .1, l .inv .2, λ ss g p. still ss bytes z (l .at) (l .inv .3 ss g p) (s .0 .0) (s .0 .1 .0) q (sym (r .0) ∙ c .before .before .before .before .before .before .before .before .before .before .before .before .if1 .left) _ e)
 
 pub run-on-spec : {M : Type 1} → statement M
 run-on-spec =
@@ -230,6 +219,7 @@ run-on-spec =
     loop-less
     loop-again
     advance-requires
+    key-at-requires
     wants-requires
     loop-less-2
     loop-again-2

@@ -2,7 +2,7 @@ use native.Mathlib.Decide.{ℕ-discrete}
 use lib.ListN.{length-set}
 use lib.Seq.{getD-set-same, getD-set-other}
 use mathlib.Core.Path.{_∙_}
-use Rattle.table.specs.Keys.{keyOf}
+use Rattle.event.specs.Keys.{keyOf}
 use Rattle.table.specs.Table.{noSlot}
 use borrow.Author.Needs.{needs}
 use lib.ListN.{length, getD}
@@ -11,9 +11,6 @@ use native.Mathlib.Omega.{arith}
 use Prim.Native.Nat.{ℕ, _-_, _≤_, _<_}
 use Rattle.table.proofs.keys.Statement.{statement}
 use Rattle.table.proofs.keys.Tie as tie
-use Rattle.table.proofs.keys.Reads as reads
-use Rattle.table.proofs.keys.Lts as lts
-use Rattle.table.proofs.slot_key.Reads as slot-key-reads
 
 either : {P A : Type 0} → Dec P → (P → A) → (¬ P → A) → A
 either (yes p) f g = f p

@@ -1,9 +1,6 @@
 use borrow.Author.Needs.{needs}
 use Rattle.table.proofs.slot_key.Statement.{statement}
 use Rattle.table.proofs.slot_key.Tie as tie
-use Rattle.table.proofs.slot_key.Reads as reads
-use Rattle.table.proofs.slot_key.Lts as lts
-use Rattle.table.proofs.key.Reads as key-reads
 
 enum-known-op : tie.Need-enum-known-op
 enum-known-op c = search needs
