@@ -20,9 +20,10 @@ use Rattle.trace.proofs.Lists.{length-snoc, both-ways}
 use Rattle.trace.proofs.Numbers.{numbered-among, numbered-at}
 use Rattle.clock.specs.declared.Stamp.{Stamp}
 use Rattle.table.specs.declared.Entry.{Entry}
-use Rattle.table.specs.Sets.{width, sets, size}
+use Rattle.table.specs.Sets.{width, sets, size, spread}
 use Rattle.table.specs.Table.{noSlot, limitsTo, limitsAfter, placeBy, sweptTo, slotOffered, offeredDown, offered}
 use Rattle.table.specs.Keeps.{noEvent, setNumber, rowIn, Keeping, Keeps, Follows}
+use Rattle.table.proofs.SetLaws.{with-slot, all-spread}
 use Rattle.table.proofs.RowLaws.{Step}
 use Rattle.table.proofs.SweepLaws.{swept-length, swept-still, swept-step}
 use Rattle.table.proofs.BitLaws.{number-below, number-bit, number-with, bit-within}
@@ -90,7 +91,7 @@ module _ {ss : List Slot} {log : List Event} {pattern : List Slot} {n : ℕ} {e 
 
     module _ (new-fits : fits (getD ss k noSlot) e ≡ true) (table : List ℕ) (h : State (suc k) table) where
       abbrev after : List ℕ
-      after = sweptTo (2 ^ n) table (limitsAfter pattern k stamp) entry
+      after = sweptTo (2 ^ n / 2) table (limitsAfter pattern k stamp) entry
 
       k-slot : k < slots
       k-slot = let s = ready .short in omega arith
@@ -102,7 +103,7 @@ module _ {ss : List Slot} {log : List Event} {pattern : List Slot} {n : ℕ} {e 
         outside : getD bs k false ≡ false → Mid k bs (rowIn after (setNumber bs))
         outside t =
             mid-same
-            (λ j l. sym (swept-still table (limitsAfter pattern k stamp) entry (h .whole) k-slot (2 ^ n) (setNumber bs) j l (not-there (bit-number bs k k-bit false t))))
+            (λ j l. sym (swept-still table (limitsAfter pattern k stamp) entry (h .whole) k-slot (2 ^ n / 2) (setNumber bs) j l (not-there (bit-number bs k k-bit false t))))
             (mid-over (λ u. absurd (both-ways u t)) (h .rows bs len))
           where
             not-there : setNumber bs / 2 ^ k % 2 ≡ 0 → setNumber bs / 2 ^ k % 2 ≡ 1 → ⊥
@@ -120,24 +121,23 @@ module _ {ss : List Slot} {log : List Event} {pattern : List Slot} {n : ℕ} {e 
             few : setNumber less < 2 ^ n
             few = let l = number-below less in rw (ready .follows .size-is, sym less-length) l
 
-            in-sets : setNumber less < sets
-            in-sets =
-                let l = few in
-                let s = ready .short in
-                let p : n ≤ slots = rw (ready .follows .size-is) s in
-                let q : 2 ^ n ≤ sets = pow-mono p in
-                omega arith
-
             not-there : setNumber less / 2 ^ k % 2 ≡ 0 → setNumber less / 2 ^ k % 2 ≡ 1 → ⊥
             not-there p q = omega arith
 
+            turn : (i : ℕ) × (i < 2 ^ n / 2) × (setNumber less ≡ spread k i)
+            turn = all-spread k n (setNumber less) k-slot (rw (ready .follows .size-is) k-low) few (not-there (less-bit-number bs k k-bit))
+
+            in-sets : (i : ℕ) → i < 2 ^ n / 2 → spread k i + 2 ^ k < sets
+            in-sets i l =
+                let s = ready .short in
+                let p : n ≤ slots = rw (ready .follows .size-is) s in
+                let q : 2 ^ n ≤ sets = pow-mono p in
+                with-slot k i k-slot (omega arith)
+
             step : Step (limitsTo slots pattern k stamp) entry (rowIn table (setNumber less)) (rowIn table (setNumber bs)) (rowIn after (setNumber bs))
             step =
-                subst
-                (λ (m : ℕ). Step (limitsTo slots pattern k stamp) entry (rowIn table (setNumber less)) (rowIn table m) (rowIn after m))
-                (sym (less-number bs k k-bit t))
-                (swept-step table (limitsAfter pattern k stamp) entry (h .whole) k-slot (2 ^ n) (setNumber less) few in-sets
-                (not-there (less-bit-number bs k k-bit)))
+                rw (less-number bs k k-bit t, turn .2)
+                (swept-step table (limitsAfter pattern k stamp) entry (h .whole) k-slot (2 ^ n / 2) (turn .0) (turn .1) (in-sets (turn .0) (turn .1)))
 
             bit : (j : ℕ) → suc k ≤ j → getD less j false ≡ getD bs j false
             bit j l = getD-set-other bs k j false false (λ p. let z : ⊥ = omega arith in z)
@@ -152,12 +152,12 @@ module _ {ss : List Slot} {log : List Event} {pattern : List Slot} {n : ℕ} {e 
       swept-state : State k after
       swept-state =
           record {
-            whole = swept-length table (limitsAfter pattern k stamp) entry (h .whole) k-slot (2 ^ n);
+            whole = swept-length table (limitsAfter pattern k stamp) entry (h .whole) k-slot (2 ^ n / 2);
             rows = λ bs len. by-test (getD bs k false) (inside bs len) (outside bs len);
           }
 
     -- whether the event fits the slot or not
-    slot-state : (table : List ℕ) → State (suc k) table → State k (slotOffered table pattern (2 ^ n) e stamp entry)
+    slot-state : (table : List ℕ) → State (suc k) table → State k (slotOffered table pattern (2 ^ n / 2) e stamp entry)
     unfolding slotOffered
     slot-state table h =
         rw pattern-k
@@ -171,7 +171,7 @@ module _ {ss : List Slot} {log : List Event} {pattern : List Slot} {n : ℕ} {e 
   unfolding offeredDown
   down-state zero table l h = h
   down-state (suc k) table l h =
-      down-state k (slotOffered table pattern (2 ^ n) e stamp (entry k l)) (omega arith) (slot-state k l table h)
+      down-state k (slotOffered table pattern (2 ^ n / 2) e stamp (entry k l)) (omega arith) (slot-state k l table h)
 
   pub follows-kept : (table : List ℕ) → Keeps ss log table → Keeps ss longer (offered table pattern n e stamp number)
   unfolding offered

@@ -1,6 +1,6 @@
 -- What stands in each entry of a row that was stored, of the limits, and of the table once an event was offered to one set.
 -- Assumes nothing.
-use Prim.Native.Nat.{ℕ, zero, suc, _+_, _*_, _/_, _%_, _^_, _≤_, _<_}
+use Prim.Native.Nat.{ℕ, zero, suc, _+_, _*_, _^_, _≤_, _<_}
 use mathlib.Core.Path.{_≡_, refl, sym, _∙_}
 use mathlib.Core.Bool.{Bool, true, false, and-eq-true-iff}
 use mathlib.Core.List.{List}
@@ -10,7 +10,7 @@ use native.Mathlib.Omega.{arith}
 use lib.Dec.{eqb, leb, ltb}
 use lib.ListN.{length, getD, set, replicate, length-set, length-replicate, getD-replicate}
 use lib.Seq.{getD-set-same, getD-set-other}
-use borrow.Author.Tests.{leb-true, leb-false, eqb-true, eqb-false, ne-eqb}
+use borrow.Author.Tests.{leb-true, leb-false, eqb-true, eqb-false}
 use Rattle.event.specs.declared.Slot.{Slot}
 use Rattle.event.specs.Limits.{slots}
 use Rattle.event.proofs.Tests.{by-test}
@@ -20,7 +20,7 @@ use Rattle.table.specs.declared.Entry.{Entry}
 use Rattle.table.specs.Sets.{lanes, width, held, sets, size, rowOf}
 use Rattle.table.specs.Table.{put, rowAt, roomTo, roomIn, noSlot, limitAt, limitsTo, joined, setOffered}
 use Rattle.table.specs.Keeps.{rowIn}
-use Rattle.table.proofs.SetLaws.{with-slot, row-fits}
+use Rattle.table.proofs.SetLaws.{row-fits}
 
 -- ---- a part that is replaced
 
@@ -189,45 +189,39 @@ module _ (table : List ℕ) (limits : Limits) (entry : Entry) (whole : length ta
   pub offered-length : (m : ℕ) → length (setOffered table m limits entry) ≡ size
   unfolding setOffered stored
   offered-length m =
-      by-test (eqb (m / 2 ^ slot % 2) 1)
-      (λ p. rw p whole)
-      (λ p.
       by-test (eqb (getD table (rowOf m + held) 0) 0)
-      (λ q. rw (p, q) whole)
+      (λ q. rw q whole)
       (λ q.
       by-test (roomIn (rowAt table (rowOf m)) limits)
-      (λ r. rw (p, q, r) (stored-length (rowOf (m + 2 ^ slot)) m))
-      (λ r. rw (p, q, r) whole)))
+      (λ r. rw (q, r) (stored-length (rowOf (m + 2 ^ slot)) m))
+      (λ r. rw (q, r) whole))
 
   -- another row stays
-  pub offered-outside : (m n j : ℕ) → j < width → ((m / 2 ^ slot % 2 ≡ 1 → ⊥) → n ≡ m + 2 ^ slot → ⊥)
+  pub offered-outside : (m n j : ℕ) → j < width → (n ≡ m + 2 ^ slot → ⊥)
       → rowIn (setOffered table m limits entry) n j ≡ rowIn table n j
   unfolding setOffered stored
   offered-outside m n j l out =
-      by-test (eqb (m / 2 ^ slot % 2) 1)
-      (λ p. rw p)
-      (λ p.
       by-test (eqb (getD table (rowOf m + held) 0) 0)
-      (λ q. rw (p, q))
+      (λ q. rw q)
       (λ q.
       by-test (roomIn (rowAt table (rowOf m)) limits)
-      (λ r. rw (p, q, r) (stored-outside (rowOf (m + 2 ^ slot)) m (rowOf n + j) (λ i u e. out (eqb-false _ _ p) (apart (m + 2 ^ slot) i u e))))
-      (λ r. rw (p, q, r))))
+      (λ r. rw (q, r) (stored-outside (rowOf (m + 2 ^ slot)) m (rowOf n + j) (λ i u e. out (apart (m + 2 ^ slot) i u e))))
+      (λ r. rw (q, r)))
     where
       apart : (t i : ℕ) → i < width → n * width + j ≡ t * width + i → n ≡ t
       apart t i u e = omega arith
 
   -- and the row of the set with the slot
-  pub offered-step : (m : ℕ) → m < sets → (m / 2 ^ slot % 2 ≡ 1 → ⊥)
+  pub offered-step : (m : ℕ) → m + 2 ^ slot < sets
       → Step (limits .at) entry (rowIn table m) (rowIn table (m + 2 ^ slot)) (rowIn (setOffered table m limits entry) (m + 2 ^ slot))
   unfolding setOffered stored
-  offered-step m in-sets d =
+  offered-step m in-sets =
       by-test (eqb (getD table (rowOf m + held) 0) 0)
-      (λ q. rw (ne-eqb _ _ d, q) (no-row (eqb-true _ _ q) (λ j l. refl)))
+      (λ q. rw q (no-row (eqb-true _ _ q) (λ j l. refl)))
       (λ q.
       by-test (roomIn (rowAt table (rowOf m)) limits)
       (λ r.
-      rw (ne-eqb _ _ d, q, r)
+      rw (q, r)
       (joins (eqb-false _ _ q)
       (λ i l. rw (row-entry table (rowOf m) i (omega arith)) at (room-true lanes (rowAt table (rowOf m) .at) (limits .at) r i l))
       (stored-place to m fits)
@@ -236,10 +230,10 @@ module _ (table : List ℕ) (limits : Limits) (entry : Entry) (whole : length ta
       (λ r.
       let x = room-false lanes (rowAt table (rowOf m) .at) (limits .at) r in
       let l : x .0 < lanes = x .1 in
-      rw (ne-eqb _ _ d, q, r) (no-room (x .0) l (rw (row-entry table (rowOf m) (x .0) (omega arith)) at (x .2)) (λ j l. refl))))
+      rw (q, r) (no-room (x .0) l (rw (row-entry table (rowOf m) (x .0) (omega arith)) at (x .2)) (λ j l. refl))))
     where
       to : ℕ
       to = rowOf (m + 2 ^ slot)
 
       fits : rowOf (m + 2 ^ slot) + width ≤ size
-      fits = row-fits (m + 2 ^ slot) (with-slot m slot low in-sets d)
+      fits = row-fits (m + 2 ^ slot) in-sets

@@ -1,6 +1,6 @@
 -- The table as a list of numbers: what an event makes of it, and what is found in it, for every list and every event.
 -- Assumes nothing.
-use Prim.Native.Nat.{ℕ, zero, suc, _+_, _-_, _/_, _%_, _^_}
+use Prim.Native.Nat.{ℕ, zero, suc, _+_, _-_, _/_, _^_}
 use mathlib.Core.Bool.{Bool, true, false, cond, _&&_, not}
 use mathlib.Core.List.{List, [], _∷_, _++_}
 use lib.Dec.{eqb, leb, ltb}
@@ -14,7 +14,7 @@ use Rattle.clock.specs.declared.Stamp.{Stamp}
 use Rattle.table.specs.declared.Row.{Row}
 use Rattle.table.specs.declared.Limits.{Limits}
 use Rattle.table.specs.declared.Entry.{Entry}
-use Rattle.table.specs.Sets.{lanes, width, held, size, rowOf, absent}
+use Rattle.table.specs.Sets.{lanes, width, held, size, rowOf, spread, absent}
 
 -- ---- rows
 
@@ -54,27 +54,22 @@ limitsAfter pattern k stamp = record { at = limitsTo slots pattern k stamp }
 
 -- ---- an event is offered
 
--- the set m has the slot k
-abbrev pub has : ℕ → ℕ → Bool
-has m k = eqb (m / 2 ^ k % 2) 1
-
 -- the table with the row r and the entry in it stored at f
 abbrev pub joined : List ℕ → ℕ → Row → Entry → List ℕ
 joined table f r entry = set (set (put width table f (r .at) 0) (f + entry .slot) (entry .place)) (f + lanes + entry .slot) (entry .number)
 
--- to the set m: where that has not the slot and has a row with room, it gives the row of the set with the slot
+-- to the set m, which has not the slot: where it has a row with room, it gives the row of the set with the slot
 unfoldable pub setOffered : List ℕ → ℕ → Limits → Entry → List ℕ
 setOffered table m limits entry =
-    cond (has m (entry .slot)) table
-    (cond (eqb (getD table (rowOf m + held) 0) 0) table
-    (cond (roomIn (rowAt table (rowOf m)) limits) (joined table (rowOf (m + 2 ^ entry .slot)) (rowAt table (rowOf m)) entry) table))
+    cond (eqb (getD table (rowOf m + held) 0) 0) table
+    (cond (roomIn (rowAt table (rowOf m)) limits) (joined table (rowOf (m + 2 ^ entry .slot)) (rowAt table (rowOf m)) entry) table)
 
--- to the first n sets
+-- to the first n sets without the slot
 unfoldable pub sweptTo : ℕ → List ℕ → Limits → Entry → List ℕ
 sweptTo zero table limits entry = table
-sweptTo (suc n) table limits entry = setOffered (sweptTo n table limits entry) n limits entry
+sweptTo (suc n) table limits entry = setOffered (sweptTo n table limits entry) (spread (entry .slot) n) limits entry
 
--- at the entry's slot, to the first `count` sets
+-- at the entry's slot, to the first `count` sets without it
 unfoldable pub slotOffered : List ℕ → List Slot → ℕ → Event → Stamp → Entry → List ℕ
 slotOffered table pattern count e stamp entry =
     cond (fits (getD pattern (entry .slot) noSlot) e) (sweptTo count table (limitsAfter pattern (entry .slot) stamp) entry) table
@@ -83,11 +78,11 @@ slotOffered table pattern count e stamp entry =
 abbrev pub placeBy : Event → Stamp → ℕ
 placeBy e stamp = getD (stamp .at) (e .thread) 0 - 1
 
--- at the first k slots, the last of them first
+-- at the first k slots, the last of them first; half of the sets of n slots are without that slot
 unfoldable pub offeredDown : ℕ → List ℕ → List Slot → ℕ → Event → Stamp → ℕ → List ℕ
 offeredDown zero table pattern n e stamp number = table
 offeredDown (suc k) table pattern n e stamp number =
-    offeredDown k (slotOffered table pattern (2 ^ n) e stamp (record { slot = k; place = placeBy e stamp; number = number })) pattern n e stamp number
+    offeredDown k (slotOffered table pattern (2 ^ n / 2) e stamp (record { slot = k; place = placeBy e stamp; number = number })) pattern n e stamp number
 
 -- at every slot of a pattern of n: nothing where the event's thread or n is outside its limit
 unfoldable pub offered : List ℕ → List Slot → ℕ → Event → Stamp → ℕ → List ℕ

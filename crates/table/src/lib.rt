@@ -145,7 +145,7 @@ pub fn offer(
         return;
     }
     let place = one_less(stamp.at[t]);
-    let sets = power(size);
+    let half = power(size) / 2;
     let mut k = size;
     while k > 0 {
         k -= 1;
@@ -157,7 +157,7 @@ pub fn offer(
                 place,
                 number,
             };
-            sweep(table, sets, limits, entry);
+            sweep(table, half, limits, entry);
         }
     }
 }
@@ -208,26 +208,24 @@ fn limit(s: Slot, later: bool, stamp: Stamp) -> u16
     stamp.at[t]
 }
 
-// Goes through the sets without the entry's slot.
-fn sweep(table: &mut [u16; TABLE], count: usize, limits: Limits, entry: Entry)
-    requires { ⌜ (entry .slot < slotLimit) × (count ≤ sets) ⌝ }
-    ensures { λ _. ⌜ now (table .exit) ≡ sweptTo count (now (table .entry)) limits entry ⌝ }
+// Goes through the sets without the entry's slot, which are half of all: the bits of i, with a 0 put in at the slot.
+fn sweep(table: &mut [u16; TABLE], half: usize, limits: Limits, entry: Entry)
+    requires { ⌜ (entry .slot < slotLimit) × (2 * half ≤ sets) ⌝ }
+    ensures { λ _. ⌜ now (table .exit) ≡ sweptTo half (now (table .entry)) limits entry ⌝ }
 {
-    let p = power(entry.slot);
-    for m in 0..count {
+    let k = entry.slot;
+    let p = power(k);
+    for i in 0..half {
+        let m = i + (i >> k) * p;
         offer_set(table, m, p, limits, entry);
     }
 }
 
-// With the entry put into its row, the set m gives the row of the set that has the entry's slot too.
+// With the entry put into its row, the set m, which has not the entry's slot, gives the row of the set that has it too.
 fn offer_set(table: &mut [u16; TABLE], m: usize, p: usize, limits: Limits, entry: Entry)
-    requires { ⌜ (entry .slot < slotLimit) × ((m < sets) × (p ≡ 2 ^ entry .slot)) ⌝ }
+    requires { ⌜ (entry .slot < slotLimit) × ((m + p < sets) × (p ≡ 2 ^ entry .slot)) ⌝ }
     ensures { λ _. ⌜ now (table .exit) ≡ setOffered (now (table .entry)) m limits entry ⌝ }
 {
-    let k = entry.slot;
-    if (m >> k) % 2 == 1 {
-        return;
-    }
     let from = m * ROW;
     if table[from + HELD] == 0 {
         return;

@@ -1,4 +1,4 @@
-use Prim.Native.Nat.{ℕ, zero, suc, _-_, _^_, _≤_, _<_}
+use Prim.Native.Nat.{ℕ, zero, suc, _-_, _/_, _^_, _≤_, _<_}
 use native.Mathlib.Omega.{arith}
 use mathlib.Core.Path.{_≡_, refl, sym, _∙_}
 use mathlib.Core.Bool.{true, false}
@@ -21,7 +21,7 @@ use Rattle.table.proofs.offer.Tie as tie
 
 -- the slots below k, from that below k on
 below : (pattern : List Slot) (table : List ℕ) (k n : ℕ) (e : Event) (stamp : Stamp) (number : ℕ) → 0 < k
-    → offeredDown (k - 1) (slotOffered table pattern (2 ^ n) e stamp (record { slot = k - 1; place = placeBy e stamp; number = number })) pattern n e stamp number
+    → offeredDown (k - 1) (slotOffered table pattern (2 ^ n / 2) e stamp (record { slot = k - 1; place = placeBy e stamp; number = number })) pattern n e stamp number
     ≡ offeredDown k table pattern n e stamp number
 unfolding offeredDown
 below pattern table zero n e stamp number l = absurd (omega arith)
@@ -30,7 +30,7 @@ below pattern table (suc k) n e stamp number l = let z : suc k - 1 ≡ k = omega
 -- one that the event fits
 fitting : (pattern : List Slot) (table next : List ℕ) (limits : Limits) (k n count : ℕ) (e : Event) (stamp : Stamp) (place number : ℕ) → 0 < k
     → count ≡ 2 ^ n → place ≡ placeBy e stamp → limits ≡ limitsAfter pattern (k - 1) stamp → fits (getD pattern (k - 1) noSlot) e ≡ true
-    → next ≡ sweptTo count table limits (record { slot = k - 1; place = place; number = number })
+    → next ≡ sweptTo (count / 2) table limits (record { slot = k - 1; place = place; number = number })
     → offeredDown (k - 1) next pattern n e stamp number ≡ offeredDown k table pattern n e stamp number
 unfolding slotOffered
 fitting pattern table next limits k n count e stamp place number l c p m f h = rw (h, c, p, m) (rw f at (below pattern table k n e stamp number l))
@@ -49,10 +49,10 @@ both : (pattern : List Slot) (n : ℕ) (e : Event) (stamp : Stamp) (number : ℕ
 both pattern n e stamp number table out p = (p, λ ss log h f. rw p (offer-kept ss log pattern n e stamp number table h f))
 
 abbrev Inv-loop : tie.InvT-loop
-Inv-loop table₀ size e number slots stamp t place sets k₀ table k = (k ≤ size) × (offeredDown k table slots size e stamp number ≡ offeredDown size table₀ slots size e stamp number)
+Inv-loop table₀ size e number slots stamp t place half k₀ table k = (k ≤ size) × (offeredDown k table slots size e stamp number ≡ offeredDown size table₀ slots size e stamp number)
 
 abbrev μ-loop : tie.MeasureT-loop
-μ-loop table₀ size e number slots stamp t place sets k₀ table k = k
+μ-loop table₀ size e number slots stamp t place half k₀ table k = k
 
 cast-t : tie.Need-cast-t Inv-loop μ-loop
 cast-t c = search needs

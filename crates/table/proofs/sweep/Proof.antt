@@ -1,17 +1,29 @@
-use Prim.Native.Nat.{_-_, _≤_}
+use Prim.Native.Nat.{ℕ, _+_, _*_, _-_, _/_, _^_, _≤_, _<_}
 use native.Mathlib.Omega.{arith}
 use native.Mathlib.Numerals.{add-one}
 use mathlib.Core.Path.{_≡_, refl}
+use Rattle.event.specs.Limits.{slots}
+use Rattle.table.specs.Sets.{sets, spread}
 use Rattle.table.specs.Table.{sweptTo}
+use Rattle.table.proofs.SetLaws.{with-slot}
 use borrow.Author.Needs.{needs}
 use Rattle.table.proofs.sweep.Statement.{statement}
 use Rattle.table.proofs.sweep.Tie as tie
 
+-- the set of a turn, with the slot
+inside : (k p half i : ℕ) → k < slots → p ≡ 2 ^ k → 2 * half ≤ sets → i < half → i + i / 2 ^ k * p + p < sets
+unfolding spread
+inside k p half i l q h u = rw q (with-slot k i l (omega arith))
+
 abbrev Inv-loop : tie.InvT-loop
-Inv-loop table₀ count limits entry p m₀ table m = (m ≤ count) × (table ≡ sweptTo m table₀ limits entry)
+Inv-loop table₀ half limits entry k p i₀ table i = (i ≤ half) × (table ≡ sweptTo i table₀ limits entry)
 
 abbrev μ-loop : tie.MeasureT-loop
-μ-loop table₀ count limits entry p m₀ table m = count - m
+μ-loop table₀ half limits entry k p i₀ table i = half - i
+
+turn : (c : tie.In-loop Inv-loop μ-loop)
+    → c .before .loop .i + c .before .loop .i / 2 ^ c .before .before .before .args .entry .slot * c .before .before .power .result + c .before .before .power .result < sets
+turn c = let a = c .before .before .before in inside (a .args .entry .slot) _ (a .args .half) (c .before .loop .i) (a .pre .0) (c .before .before .power .ensures) (a .pre .1) (c .loop-test .taken)
 
 power-requires : tie.Need-power-requires Inv-loop μ-loop
 power-requires c κs = search needs
@@ -20,21 +32,30 @@ loop-holds : tie.Need-loop-holds Inv-loop μ-loop
 unfolding sweptTo
 loop-holds c = (search needs, refl)
 
-offer-set-requires : tie.Need-offer-set-requires Inv-loop μ-loop
-offer-set-requires c κs = let a = c .before .before .before .before in (a .pre .0, (omega arith, c .before .before .before .power .ensures))
+shr-m : tie.Need-shr-m Inv-loop μ-loop
+shr-m c = search needs
+
+mul-m : tie.Need-mul-m Inv-loop μ-loop
+mul-m c = let l = turn c in omega arith
 
 add-m : tie.Need-add-m Inv-loop μ-loop
-add-m c = search needs
+add-m c = let l = turn c in omega arith
+
+offer-set-requires : tie.Need-offer-set-requires Inv-loop μ-loop
+offer-set-requires c κs = (c .before .before .before .before .pre .0, (turn (c .before), c .before .before .before .power .ensures))
+
+add-i : tie.Need-add-i Inv-loop μ-loop
+add-i c = search needs
 
 loop-less : tie.Need-loop-less Inv-loop μ-loop
 loop-less c = search needs
 
 loop-again : tie.Need-loop-again Inv-loop μ-loop
-unfolding sweptTo
-loop-again c = (search needs, rw (add-one, c .offer-set .ensures, c .before .before .before .loop .inv .1))
+unfolding sweptTo spread
+loop-again c = (search needs, rw (add-one, c .offer-set .ensures, c .before .before .before .loop .inv .1, c .before .before .before .before .power .ensures))
 
 returns : tie.Need-returns Inv-loop μ-loop
-returns c = let k : c .before .loop .m ≡ c .before .before .before .args .count = omega arith in rw k at (c .before .loop .inv .1)
+returns c = let k : c .before .loop .i ≡ c .before .before .before .args .half = omega arith in rw k at (c .before .loop .inv .1)
 
 pub sweep-spec : {M : Type 1} → statement M
 sweep-spec =
@@ -44,8 +65,11 @@ sweep-spec =
     μ-loop
     power-requires
     loop-holds
-    offer-set-requires
+    shr-m
+    mul-m
     add-m
+    offer-set-requires
+    add-i
     loop-less
     loop-again
     returns)
