@@ -1,5 +1,5 @@
 // Lists each example folder that its arguments name, and says whether the text is the one in the folder's file `printed`.
-use command::Written;
+use writer::Written;
 ghost use Rattle.io.specs.Counts.{Counts};
 
 // One byte more than the longest file that is listed.

@@ -1,5 +1,5 @@
 // A comparison of bytes, and the place after a written command.
-use command::Written;
+use writer::Written;
 
 // Whether two slices hold the same bytes.
 pub(crate) fn same(a: &[u8], b: &[u8]) -> bool {

@@ -43,7 +43,7 @@ fn after_marks(log: &mut [u8]) {
 
 // A join and 65,534 marks take 262,139 bytes.
 fn after_a_join(log: &mut [u8]) {
-    let at = buffers::next_place(command::write_event(log, 0, made::join(0, 1)));
+    let at = buffers::next_place(writer::write_event(log, 0, made::join(0, 1)));
     let near = marks::write(log, at, 65533);
     vectors::read_after(
         Reader::Log,
@@ -70,7 +70,7 @@ fn after_a_join(log: &mut [u8]) {
 }
 
 fn after_an_acquire(log: &mut [u8]) {
-    let at = buffers::next_place(command::write_event(log, 0, made::acquire(0, 2)));
+    let at = buffers::next_place(writer::write_event(log, 0, made::acquire(0, 2)));
     let full = marks::write(log, at, 65534);
     vectors::read_after(
         Reader::Log,

@@ -40,10 +40,10 @@ fn copy_log(log: &[u8], copy: &mut [u8]) -> usize {
     for turn in 0..log.len() {
         let read = command::read_event(log, at);
         let EventRead::Event { event, next } = read else {
-            return buffers::next_place(command::write_end(copy, to));
+            return buffers::next_place(writer::write_end(copy, to));
         };
         at = next;
-        to = buffers::next_place(command::write_event(copy, to, event));
+        to = buffers::next_place(writer::write_event(copy, to, event));
     }
     to
 }
@@ -54,10 +54,10 @@ fn copy_pattern(pattern: &[u8], copy: &mut [u8]) -> usize {
     for turn in 0..pattern.len() {
         let read = command::read_slot(pattern, at);
         let SlotRead::Slot { slot, next } = read else {
-            return buffers::next_place(command::write_end(copy, to));
+            return buffers::next_place(writer::write_end(copy, to));
         };
         at = next;
-        to = buffers::next_place(command::write_slot(copy, to, slot));
+        to = buffers::next_place(writer::write_slot(copy, to, slot));
     }
     to
 }
@@ -106,7 +106,7 @@ fn patterns() {
 
 fn event_back(e: Event) {
     let mut buffer = [0xEEu8; 9];
-    let to = buffers::next_place(command::write_event(&mut buffer, 1, e));
+    let to = buffers::next_place(writer::write_event(&mut buffer, 1, e));
     console::text(b"written and read, ");
     show::event(e);
     console::text(b":");
@@ -127,7 +127,7 @@ fn event_back(e: Event) {
 
 fn slot_back(s: Slot) {
     let mut buffer = [0xEEu8; 9];
-    let to = buffers::next_place(command::write_slot(&mut buffer, 1, s));
+    let to = buffers::next_place(writer::write_slot(&mut buffer, 1, s));
     console::text(b"written and read, slot ");
     show::slot(s);
     console::text(b":");
@@ -182,19 +182,19 @@ fn slots() {
 // The log and the pattern of document 01's whole example, command by command.
 fn whole_example() {
     let mut log = [0xEEu8; 14];
-    let mark = buffers::next_place(command::write_event(&mut log, 0, made::mark(1, 11)));
-    let write = buffers::next_place(command::write_event(&mut log, mark, made::write(0, 0, -400)));
-    command::write_end(&mut log, write);
+    let mark = buffers::next_place(writer::write_event(&mut log, 0, made::mark(1, 11)));
+    let write = buffers::next_place(writer::write_event(&mut log, mark, made::write(0, 0, -400)));
+    writer::write_end(&mut log, write);
     console::text(b"log of the whole example:");
     console::bytes(&log);
     let mut pattern = [0xEEu8; 10];
-    let first = buffers::next_place(command::write_slot(&mut pattern, 0, made::write_slot(0, 0)));
-    let second = buffers::next_place(command::write_slot(
+    let first = buffers::next_place(writer::write_slot(&mut pattern, 0, made::write_slot(0, 0)));
+    let second = buffers::next_place(writer::write_slot(
         &mut pattern,
         first,
         made::mark_slot(1, 11),
     ));
-    command::write_end(&mut pattern, second);
+    writer::write_end(&mut pattern, second);
     console::text(b"\npattern of the whole example:");
     console::bytes(&pattern);
     console::text(b"\n");

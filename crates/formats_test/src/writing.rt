@@ -2,7 +2,7 @@
 use crate::buffers;
 use crate::made;
 use crate::show;
-use command::Written;
+use writer::Written;
 use event::Event;
 use event::Slot;
 ghost use Prim.Native.Nat.{_≤_};
@@ -28,7 +28,7 @@ fn event(room: usize, at: usize, e: Event)
     console::text(b"write ");
     show::event(e);
     place(room, at);
-    let w = command::write_event(&mut buffer[..room], at, e);
+    let w = writer::write_event(&mut buffer[..room], at, e);
     answer(w, &buffer);
 }
 
@@ -39,7 +39,7 @@ fn slot(room: usize, at: usize, s: Slot)
     console::text(b"write slot ");
     show::slot(s);
     place(room, at);
-    let w = command::write_slot(&mut buffer[..room], at, s);
+    let w = writer::write_slot(&mut buffer[..room], at, s);
     answer(w, &buffer);
 }
 
@@ -49,7 +49,7 @@ fn end(room: usize, at: usize)
     let mut buffer = [0xEEu8; 10];
     console::text(b"write closing 00");
     place(room, at);
-    let w = command::write_end(&mut buffer[..room], at);
+    let w = writer::write_end(&mut buffer[..room], at);
     answer(w, &buffer);
 }
 

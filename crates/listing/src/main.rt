@@ -1,5 +1,5 @@
 // Prints the listing of pattern.bin and log.bin, read in the folder where it is run.
-use command::Written;
+use writer::Written;
 ghost use Rattle.io.specs.Counts.{Counts};
 
 // One byte more than the longest file that is listed, so that a longer one is seen to be longer.

@@ -7,10 +7,10 @@ use mathlib.Core.List.{List}
 use lib.ListN.{length}
 use borrow.Author.Tests.{leb-true}
 use Rattle.event.proofs.Tests.{by-test}
-use Rattle.command.specs.declared.Written.{Written}
-use Rattle.command.specs.declared.Written.the-variants.{Next}
-use Rattle.command.specs.Writing.{writtenIs, written, refused, hasRoom}
-use Rattle.command.proofs.Buffers.{puts, length-put}
+use Rattle.writer.specs.declared.Written.{Written}
+use Rattle.writer.specs.declared.Written.the-variants.{Next}
+use Rattle.writer.specs.Writing.{writtenIs, written, refused, hasRoom}
+use Rattle.writer.proofs.Buffers.{puts, length-put}
 use Rattle.listing_text.specs.Listing.{ListedIn}
 
 pub within : (pattern log before after : List ℕ) (r : Written) (at : ℕ) → ListedIn pattern log before after r → r ≡ Next at → at ≤ length after

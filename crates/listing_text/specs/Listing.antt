@@ -5,8 +5,8 @@ use mathlib.Core.List.{List, [], _∷_, _++_}
 use lib.ListN.{length}
 use Rattle.event.specs.declared.Event.{Event}
 use Rattle.event.specs.declared.Slot.{Slot}
-use Rattle.command.specs.declared.Written.{Written}
-use Rattle.command.specs.Writing.{writing, writtenIs, bufferAfter}
+use Rattle.writer.specs.declared.Written.{Written}
+use Rattle.writer.specs.Writing.{writing, writtenIs, bufferAfter}
 use Rattle.log.specs.Whole.{accepted, refused, readLog, readPattern}
 use Rattle.trace.specs.Before.{Numbered}
 use Rattle.dependence.specs.Order.{HasMatch, IsCount, Named}

@@ -1,6 +1,6 @@
 // The listing: a pattern and a log judged, and the verdict as text in a lent buffer.
 use command::Decoded;
-use command::Written;
+use writer::Written;
 use event::Event;
 use event::Operation;
 use height::Metres;
@@ -11,7 +11,7 @@ ghost use mathlib.Core.Path.{_≡_};
 ghost use mathlib.Core.Bool.{cond};
 ghost use mathlib.Core.List.{List, []};
 ghost use lib.ListN.{length, take};
-ghost use Rattle.command.specs.Writing.{writing, writtenIs, bufferAfter};
+ghost use Rattle.writer.specs.Writing.{writing, writtenIs, bufferAfter};
 ghost use Rattle.listing_text.specs.Text.{ascii, figures as figuresOf, decimal, metresText, heightText, operationText, slotLine, refusalLine, matchLine};
 ghost use Rattle.listing_text.specs.Page.{blank, with, onto, eventFrom, linesOf, textOf};
 ghost use Rattle.listing_text.specs.Listing.{enough as room, Listing, ListedIn};

@@ -9,10 +9,10 @@ pub(crate) fn run() {
 
 fn in_space(space: &mut [u8]) {
     let full = marks::write(space, 0, 65535);
-    command::write_end(space, full);
+    writer::write_end(space, full);
     most_events(space, full);
     let over = marks::write(space, 0, 65536);
-    command::write_end(space, over);
+    writer::write_end(space, over);
     ask(b"65,536 marks, 1 before 2", space, over, 1, 2);
 }
 

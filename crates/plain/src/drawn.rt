@@ -1,6 +1,6 @@
 // Small logs drawn by number.
 // Used by test programs only: proved safe, compared and not specified.
-use command::Written;
+use writer::Written;
 use event::Event;
 use event::Operation;
 use log::LogRead;
@@ -88,7 +88,7 @@ fn one_event(buffer: &mut [u8], d: Draft, manner: Manner) -> Draft {
     for n in 0..tries {
         drawn = draw(drawn);
         end = place_after(
-            command::write_event(buffer, at, event_of(drawn, manner)),
+            writer::write_event(buffer, at, event_of(drawn, manner)),
             at,
         );
         if takes(buffer, end) {
@@ -100,7 +100,7 @@ fn one_event(buffer: &mut [u8], d: Draft, manner: Manner) -> Draft {
 
 // Whether what stands before `end`, closed, is an accepted log.
 fn takes(buffer: &mut [u8], end: usize) -> bool {
-    command::write_end(buffer, end);
+    writer::write_end(buffer, end);
     if buffer.len() <= end {
         return false;
     }

@@ -12,7 +12,7 @@ pub fn write(log: &mut [u8], at: usize, count: usize) -> usize {
     };
     let mut place = at;
     for n in 0..count {
-        place = drawn::place_after(command::write_event(log, place, mark), place);
+        place = drawn::place_after(writer::write_event(log, place, mark), place);
     }
     place
 }

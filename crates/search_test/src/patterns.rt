@@ -168,7 +168,7 @@ pub(crate) fn write(buffer: &mut [u8], k: Sketch) -> usize {
     for i in 0..5 {
         at = write_one(buffer, at, k, i);
     }
-    drawn::place_after(command::write_end(buffer, at), at)
+    drawn::place_after(writer::write_end(buffer, at), at)
 }
 
 fn write_one(buffer: &mut [u8], at: usize, k: Sketch, i: usize) -> usize {
@@ -176,7 +176,7 @@ fn write_one(buffer: &mut [u8], at: usize, k: Sketch, i: usize) -> usize {
         return at;
     }
     let slot = slot_of(k.slots[i]);
-    drawn::place_after(command::write_slot(buffer, at, slot), at)
+    drawn::place_after(writer::write_slot(buffer, at, slot), at)
 }
 
 fn slot_of(a: Plain) -> Slot {

@@ -1,11 +1,11 @@
 use native.Mathlib.Nat.{zero-add}
-use Rattle.command.specs.Writing.{written}
+use Rattle.writer.specs.Writing.{written}
 use borrow.Author.Needs.{needs}
 use lib.ListN.{length, getD, set}
 use mathlib.Core.List.{List}
 use native.Mathlib.Numerals.{add-one}
 use Prim.Native.Nat.{ℕ}
-use Rattle.command.proofs.Buffers.{no-room, has-room}
+use Rattle.writer.proofs.Buffers.{no-room, has-room}
 use lib.Seq.{paste, paste-zero, paste-suc, length-paste}
 use mathlib.Core.Path.{_≡_, refl, sym, ap, _∙_}
 use native.Mathlib.Omega.{arith}
