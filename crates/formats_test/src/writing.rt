@@ -2,9 +2,9 @@
 use crate::buffers;
 use crate::made;
 use crate::show;
-use writer::Written;
 use event::Event;
 use event::Slot;
+use writer::Written;
 ghost use Prim.Native.Nat.{_≤_};
 
 pub(crate) fn run() {

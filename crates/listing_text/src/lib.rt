@@ -1,11 +1,11 @@
 // The listing: a pattern and a log judged, and the verdict as text in a lent buffer.
 use command::Decoded;
-use writer::Written;
 use event::Event;
 use event::Operation;
 use height::Metres;
 use session::Judged;
 use session::Outcome;
+use writer::Written;
 ghost use Prim.Native.Nat.{ℕ, _≤_};
 ghost use mathlib.Core.Path.{_≡_};
 ghost use mathlib.Core.Bool.{cond};

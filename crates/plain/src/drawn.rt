@@ -1,9 +1,9 @@
 // Small logs drawn by number.
 // Used by test programs only: proved safe, compared and not specified.
-use writer::Written;
 use event::Event;
 use event::Operation;
 use log::LogRead;
+use writer::Written;
 ghost use mathlib.Core.Path.{_≡_};
 ghost use Prim.Native.Nat.{_+_, _*_, _%_};
 
@@ -87,10 +87,7 @@ fn one_event(buffer: &mut [u8], d: Draft, manner: Manner) -> Draft {
     let mut drawn = d.drawn;
     for n in 0..tries {
         drawn = draw(drawn);
-        end = place_after(
-            writer::write_event(buffer, at, event_of(drawn, manner)),
-            at,
-        );
+        end = place_after(writer::write_event(buffer, at, event_of(drawn, manner)), at);
         if takes(buffer, end) {
             return Draft { at: end, drawn };
         }
