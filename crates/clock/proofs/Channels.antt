@@ -12,7 +12,10 @@ use Rattle.event.specs.declared.Event.{Event}
 use Rattle.event.specs.Limits.{threads, variables}
 use Rattle.trace.proofs.Lists.{same-test}
 use Rattle.trace.proofs.Tallies.{join}
-use Rattle.dependence.specs.Dependence.{Touch, reads, writes, locks, names, nothing, touched, variable, lock, named, isWrite, same}
+use Rattle.event.specs.declared.Touch.{Touch}
+use Rattle.event.specs.declared.Touch.the-variants.{Reads, Writes, Locks, Names, Nothing}
+use Rattle.event.specs.Effects.{touched}
+use Rattle.dependence.specs.Dependence.{variable, lock, named, isWrite, same}
 use Rattle.dependence.specs.Channels.{Channel, thread, readsOf, writesOf, lockOf, tells, heardAt}
 use Rattle.clock.specs.Rows.{numberOf, Known, besideOf, beside}
 
@@ -21,11 +24,11 @@ use Rattle.clock.specs.Rows.{numberOf, Known, besideOf, beside}
 -- what is heard of the own row and two more is what is heard of the channels
 pub heard-of : (f : Channel → ℕ) (t : ℕ) (x : Touch)
     → max (max (f (thread t)) (f (besideOf t x .first))) (f (besideOf t x .second)) ≡ join f (thread t ∷ heardAt x)
-heard-of f t (reads v) = omega arith
-heard-of f t (writes v) = omega arith
-heard-of f t (locks l) = omega arith
-heard-of f t (names c) = omega arith
-heard-of f t nothing = omega arith
+heard-of f t (Reads v) = omega arith
+heard-of f t (Writes v) = omega arith
+heard-of f t (Locks l) = omega arith
+heard-of f t (Names c) = omega arith
+heard-of f t Nothing = omega arith
 
 -- ---- told
 
@@ -45,11 +48,11 @@ module _ (t : ℕ) (low : t < threads) where
   Limited x = Known (besideOf t x .told)
 
   at-thread : (x : Touch) (u : ℕ) → Limited x → u < threads → toldRow x u ≡ same (named x) (some u) || eqb t u
-  at-thread (reads v) u k l = rw (ne-eqb (threads + v) u (omega arith))
-  at-thread (writes v) u k l = rw (ne-eqb (threads + variables + v) u (omega arith))
-  at-thread (locks m) u k l = rw (ne-eqb (threads + variables + variables + m) u (omega arith))
-  at-thread (names c) u k l = refl
-  at-thread nothing u k l = or-self (eqb t u)
+  at-thread (Reads v) u k l = rw (ne-eqb (threads + v) u (omega arith))
+  at-thread (Writes v) u k l = rw (ne-eqb (threads + variables + v) u (omega arith))
+  at-thread (Locks m) u k l = rw (ne-eqb (threads + variables + variables + m) u (omega arith))
+  at-thread (Names c) u k l = refl
+  at-thread Nothing u k l = or-self (eqb t u)
 
   -- past the threads the own row is out
   other-row : (n : ℕ) (b : Bool) → threads ≤ n → b || eqb t n ≡ b
@@ -60,30 +63,30 @@ module _ (t : ℕ) (low : t < threads) where
 
   at-reads : (x : Touch) (w : ℕ) → Limited x → w < variables
       → toldRow x (threads + w) ≡ not (isWrite x) && same (variable x) (some w)
-  at-reads (reads v) w k l = other-row (threads + w) _ (omega arith) ∙ shift threads v w
-  at-reads (writes v) w k l = miss (threads + variables + v) (threads + w) (omega arith) (omega arith)
-  at-reads (locks m) w k l = miss (threads + variables + variables + m) (threads + w) (omega arith) (omega arith)
-  at-reads (names c) w k l = miss c (threads + w) (omega arith) (omega arith)
-  at-reads nothing w k l = miss t (threads + w) (omega arith) (omega arith)
+  at-reads (Reads v) w k l = other-row (threads + w) _ (omega arith) ∙ shift threads v w
+  at-reads (Writes v) w k l = miss (threads + variables + v) (threads + w) (omega arith) (omega arith)
+  at-reads (Locks m) w k l = miss (threads + variables + variables + m) (threads + w) (omega arith) (omega arith)
+  at-reads (Names c) w k l = miss c (threads + w) (omega arith) (omega arith)
+  at-reads Nothing w k l = miss t (threads + w) (omega arith) (omega arith)
 
   at-writes : (x : Touch) (w : ℕ) → Limited x → w < variables
       → toldRow x (threads + variables + w) ≡ isWrite x && same (variable x) (some w)
-  at-writes (reads v) w k l = miss (threads + v) (threads + variables + w) (omega arith) (omega arith)
-  at-writes (writes v) w k l = other-row (threads + variables + w) _ (omega arith) ∙ shift (threads + variables) v w
-  at-writes (locks m) w k l =
+  at-writes (Reads v) w k l = miss (threads + v) (threads + variables + w) (omega arith) (omega arith)
+  at-writes (Writes v) w k l = other-row (threads + variables + w) _ (omega arith) ∙ shift (threads + variables) v w
+  at-writes (Locks m) w k l =
       miss (threads + variables + variables + m) (threads + variables + w) (omega arith) (omega arith)
-  at-writes (names c) w k l = miss c (threads + variables + w) (omega arith) (omega arith)
-  at-writes nothing w k l = miss t (threads + variables + w) (omega arith) (omega arith)
+  at-writes (Names c) w k l = miss c (threads + variables + w) (omega arith) (omega arith)
+  at-writes Nothing w k l = miss t (threads + variables + w) (omega arith) (omega arith)
 
   at-lock : (x : Touch) (n : ℕ) → Limited x → toldRow x (threads + variables + variables + n) ≡ same (lock x) (some n)
-  at-lock (reads v) n k =
+  at-lock (Reads v) n k =
       miss (threads + v) (threads + variables + variables + n) (omega arith) (omega arith)
-  at-lock (writes v) n k =
+  at-lock (Writes v) n k =
       miss (threads + variables + v) (threads + variables + variables + n) (omega arith) (omega arith)
-  at-lock (locks m) n k =
+  at-lock (Locks m) n k =
       other-row (threads + variables + variables + n) _ (omega arith) ∙ shift (threads + variables + variables) m n
-  at-lock (names c) n k = miss c (threads + variables + variables + n) (omega arith) (omega arith)
-  at-lock nothing n k = miss t (threads + variables + variables + n) (omega arith) (omega arith)
+  at-lock (Names c) n k = miss c (threads + variables + variables + n) (omega arith) (omega arith)
+  at-lock Nothing n k = miss t (threads + variables + variables + n) (omega arith) (omega arith)
 
 -- the own row and the other one that is told are the rows of the channels that the event tells
 pub told-of : (e : Event) (c : Channel) → e .thread < threads → Known (beside e .told) → Known c

@@ -20,7 +20,8 @@ use Rattle.trace.proofs.Tallies.{one-more, raise, join}
 use Rattle.trace.proofs.Numbers.{numbered-among}
 use Rattle.trace.proofs.Stamps.{stamp-is}
 use Rattle.trace.proofs.Channels.{next-stamp, stamp-snoc, clock-snoc}
-use Rattle.dependence.specs.Dependence.{touched, dependent}
+use Rattle.event.specs.Effects.{touched}
+use Rattle.dependence.specs.Dependence.{dependent}
 use Rattle.dependence.specs.Order.{threadOf}
 use Rattle.dependence.specs.Channels.{Channel, thread, tells, hears}
 use Rattle.dependence.proofs.Dependent.{one-thread}

@@ -10,7 +10,7 @@ use Rattle.event.specs.Limits.{threads}
 use Rattle.event.specs.Slots.{slotOf, withoutHeight, objectOf}
 use Rattle.event.specs.Range.{limitOf, rangeRefusal}
 use Rattle.event.proofs.InRange.{in-range}
-use Rattle.dependence.specs.Dependence.{touches}
+use Rattle.event.specs.Effects.{touches}
 use Rattle.dependence.specs.Channels.{Channel, thread, readsOf, writesOf, lockOf}
 use Rattle.clock.specs.declared.Rows.{Rows}
 use Rattle.clock.specs.Rows.{size, rowOf, Known, Beside, besideOf, beside}

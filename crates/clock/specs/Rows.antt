@@ -3,7 +3,9 @@
 use Prim.Native.Nat.{ℕ, _+_, _*_, _<_}
 use Rattle.event.specs.declared.Event.{Event}
 use Rattle.event.specs.Limits.{threads, variables, locks}
-use Rattle.dependence.specs.Dependence.{Touch, reads, writes, locks as locksIt, names, nothing, touched}
+use Rattle.event.specs.declared.Touch.{Touch}
+use Rattle.event.specs.declared.Touch.the-variants.{Reads, Writes, Locks, Names, Nothing}
+use Rattle.event.specs.Effects.{touched}
 use Rattle.dependence.specs.Channels.{Channel, thread, readsOf, writesOf, lockOf}
 use Rattle.clock.specs.declared.Rows.{Rows}
 
@@ -45,11 +47,11 @@ one c = record { first = c; second = c; told = c }
 
 -- those of an event that acts as thread t, by what it touches; its own thread again where there is none
 abbrev pub besideOf : ℕ → Touch → Beside
-besideOf t (reads v) = record { first = writesOf v; second = writesOf v; told = readsOf v }
-besideOf t (writes v) = record { first = writesOf v; second = readsOf v; told = writesOf v }
-besideOf t (locksIt l) = one (lockOf l)
-besideOf t (names c) = one (thread c)
-besideOf t nothing = one (thread t)
+besideOf t (Reads v) = record { first = writesOf v; second = writesOf v; told = readsOf v }
+besideOf t (Writes v) = record { first = writesOf v; second = readsOf v; told = writesOf v }
+besideOf t (Locks l) = one (lockOf l)
+besideOf t (Names c) = one (thread c)
+besideOf t Nothing = one (thread t)
 
 -- those of an event
 abbrev pub beside : Event → Beside

@@ -1,6 +1,7 @@
 // Vector clocks, updated in place as the events of a log arrive: each event is given its stamp.
 use event::Event;
 use event::Operation;
+use event::Touch;
 ghost use mathlib.Core.Path.{_≡_};
 ghost use mathlib.Core.Bool.{cond};
 ghost use mathlib.Core.List.{List, []};
@@ -10,7 +11,7 @@ ghost use Rattle.event.specs.declared.Event.{Event};
 ghost use Rattle.event.specs.Limits.{threads, events};
 ghost use Rattle.event.specs.Slots.{slotOf};
 ghost use Rattle.event.specs.Range.{rangeRefusal};
-ghost use Rattle.dependence.specs.Dependence.{touches};
+ghost use Rattle.event.specs.Effects.{touches};
 ghost use Rattle.dependence.specs.Channels.{thread, readsOf, writesOf, lockOf};
 ghost use Rattle.clock.specs.Rows.{size, rowOf, besideOf, rowsFor};
 ghost use Rattle.clock.specs.Clocks.{up, tickedAt, heardFrom, toldTo, heard, stampBy, clocksAfter, comesBefore};
@@ -72,8 +73,14 @@ pub fn advance(clocks: &mut [u16; CLOCKS], e: Event) -> Stamp
 fn rows_of(t: u8, op: Operation) -> Rows
     ensures { λ r. ⌜ r ≡ rowsFor (besideOf t (touches op)) ⌝ }
 {
-    match op {
-        Operation::Read { variable } => {
+    rows_beside(t, event::touch_of(op))
+}
+
+fn rows_beside(t: u8, touch: Touch) -> Rows
+    ensures { λ r. ⌜ r ≡ rowsFor (besideOf t touch) ⌝ }
+{
+    match touch {
+        Touch::Reads { variable } => {
             let reads = reads_row(variable);
             let writes = writes_row(variable);
             Rows {
@@ -82,10 +89,7 @@ fn rows_of(t: u8, op: Operation) -> Rows
                 told: reads,
             }
         }
-        Operation::Write {
-            variable,
-            height: _,
-        } => {
+        Touch::Writes { variable } => {
             let reads = reads_row(variable);
             let writes = writes_row(variable);
             Rows {
@@ -94,11 +98,9 @@ fn rows_of(t: u8, op: Operation) -> Rows
                 told: writes,
             }
         }
-        Operation::Acquire { lock } => one_row(lock_row(lock)),
-        Operation::Release { lock } => one_row(lock_row(lock)),
-        Operation::Fork { child } => one_row(thread_row(child)),
-        Operation::Join { child } => one_row(thread_row(child)),
-        Operation::Mark { mark: _ } => one_row(thread_row(t)),
+        Touch::Locks { lock } => one_row(lock_row(lock)),
+        Touch::Names { child } => one_row(thread_row(child)),
+        Touch::Nothing => one_row(thread_row(t)),
     }
 }
 

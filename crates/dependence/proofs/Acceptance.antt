@@ -16,56 +16,87 @@ use Rattle.event.specs.declared.Operation.{Operation}
 use Rattle.event.specs.declared.Operation.the-variants.{Read, Write, Acquire, Release, Fork, Join, Mark}
 use Rattle.event.specs.declared.Event.{Event}
 use Rattle.event.specs.Limits.{events}
-use Rattle.event.specs.Slots.{slotOf, withoutHeight}
-use Rattle.event.specs.Range.{row, firstMet, names}
+use Rattle.event.specs.declared.Effect.{Effect}
+use Rattle.event.specs.declared.Effect.the-variants.{Acquires, Releases, Forks, Joins, Nothing}
+use Rattle.event.specs.Slots.{slotOf}
+use Rattle.event.specs.Effects.{touches, touched, effects, effectOf}
+use Rattle.event.specs.Range.{row, firstMet}
 use Rattle.event.proofs.Tests.{by-test}
 use Rattle.event.proofs.InRange.{from-range, range-passes}
-use Rattle.rules.specs.Accepted.{some, actsAs, namesIt, joins, joined, actedOrNamed, Lock, lockAfter, lockOf}
-use Rattle.rules.specs.Accepted.{operationRow, eventRows, refusalAfter, AcceptedAfter, whole, one-more, Accepted}
+use Rattle.rules.specs.Accepted.{some, actsAs, namesThread, joinsThread, joined, actedOrNamed, Lock, lockAfter, lockOf}
+use Rattle.rules.specs.Accepted.{effectRows, eventRows, refusalAfter, AcceptedAfter, whole, one-more, Accepted}
 use Rattle.rules.proofs.StateLaws.{clear}
 use Rattle.trace.specs.Swaps.{Swap, here, later, Reaches, stay, swap}
-use Rattle.dependence.specs.Dependence.{touches, touched, lock, named, same, sameThread, sameVariableOneWrite, sameLock}
+use Rattle.dependence.specs.Dependence.{lock, named, same, sameThread, sameVariableOneWrite, sameLock}
 use Rattle.dependence.specs.Dependence.{namesThreadOf, oneNamesThreadOfOther, dependent}
 use Rattle.dependence.proofs.Dependent.{symmetric}
 use Rattle.dependence.proofs.Sameness.{eqb-comm, same-comm, or-left}
 
--- ---- an operation that does not touch the lock leaves it; one that does not name the thread does not join it
+-- ---- the lock and the thread that an effect is about are those that the operation touches
 
-lock-kept : (l t : ℕ) (op : Operation) (k : Lock) → same (lock (touches op)) (just l) ≡ false → lockAfter l t op k ≡ k
-lock-kept l t (Read v) k h = refl
-lock-kept l t (Write v i) k h = refl
-lock-kept l t (Acquire m) k h = rw h
-lock-kept l t (Release m) k h = rw h
-lock-kept l t (Fork c) k h = refl
-lock-kept l t (Join c) k h = refl
-lock-kept l t (Mark m) k h = refl
+abbrev lockIn : Effect → Option ℕ
+lockIn (Acquires l) = just l
+lockIn (Releases l) = just l
+lockIn (Forks c) = none
+lockIn (Joins c) = none
+lockIn Nothing = none
 
-not-joined : (t : ℕ) (op : Operation) → same (named (touches op)) (just t) ≡ false → joins t op ≡ false
-not-joined t (Read v) h = refl
-not-joined t (Write v i) h = refl
-not-joined t (Acquire m) h = refl
-not-joined t (Release m) h = refl
-not-joined t (Fork c) h = refl
-not-joined t (Join c) h = h
-not-joined t (Mark m) h = refl
+abbrev namedIn : Effect → Option ℕ
+namedIn (Acquires l) = none
+namedIn (Releases l) = none
+namedIn (Forks c) = just c
+namedIn (Joins c) = just c
+namedIn Nothing = none
 
-names-touched : (t : ℕ) (op : Operation) → names t (withoutHeight op) ≡ same (named (touches op)) (just t)
-names-touched t (Read v) = refl
-names-touched t (Write v i) = refl
-names-touched t (Acquire m) = refl
-names-touched t (Release m) = refl
-names-touched t (Fork c) = refl
-names-touched t (Join c) = refl
-names-touched t (Mark m) = refl
+lock-touched : (op : Operation) → lock (touches op) ≡ lockIn (effects op)
+lock-touched (Read v) = refl
+lock-touched (Write v h) = refl
+lock-touched (Acquire l) = refl
+lock-touched (Release l) = refl
+lock-touched (Fork c) = refl
+lock-touched (Join c) = refl
+lock-touched (Mark m) = refl
+
+name-touched : (op : Operation) → named (touches op) ≡ namedIn (effects op)
+name-touched (Read v) = refl
+name-touched (Write v h) = refl
+name-touched (Acquire l) = refl
+name-touched (Release l) = refl
+name-touched (Fork c) = refl
+name-touched (Join c) = refl
+name-touched (Mark m) = refl
+
+-- ---- an effect on another lock leaves the lock; one on another thread does not join it
+
+lock-kept : (l t : ℕ) (f : Effect) (k : Lock) → same (lockIn f) (just l) ≡ false → lockAfter l t f k ≡ k
+lock-kept l t (Acquires m) k h = rw h
+lock-kept l t (Releases m) k h = rw h
+lock-kept l t (Forks c) k h = refl
+lock-kept l t (Joins c) k h = refl
+lock-kept l t Nothing k h = refl
+
+not-joined : (t : ℕ) (f : Effect) → same (namedIn f) (just t) ≡ false → joinsThread t f ≡ false
+not-joined t (Acquires m) h = refl
+not-joined t (Releases m) h = refl
+not-joined t (Forks c) h = refl
+not-joined t (Joins c) h = h
+not-joined t Nothing h = refl
+
+names-same : (t : ℕ) (f : Effect) → namesThread t f ≡ same (namedIn f) (just t)
+names-same t (Acquires m) = refl
+names-same t (Releases m) = refl
+names-same t (Forks c) = refl
+names-same t (Joins c) = refl
+names-same t Nothing = refl
 
 -- ---- two independent events
 
 -- they touch no lock in common, neither names the thread that the other acts as, nor do they name one thread
 record Independent (a b : Event) : Type 0 where
-  locks : same (lock (touched a)) (lock (touched b)) ≡ false
-  acting : same (named (touched a)) (just (b .thread)) ≡ false
-  naming : same (named (touched a)) (named (touched b)) ≡ false
-  acted : same (named (touched b)) (just (a .thread)) ≡ false
+  locks : same (lockIn (effectOf a)) (lockIn (effectOf b)) ≡ false
+  acting : same (namedIn (effectOf a)) (just (b .thread)) ≡ false
+  naming : same (namedIn (effectOf a)) (namedIn (effectOf b)) ≡ false
+  acted : same (namedIn (effectOf b)) (just (a .thread)) ≡ false
 
 independent : (a b : Event) → dependent a b ≡ false → Independent a b
 unfolding dependent
@@ -75,33 +106,34 @@ independent a b i =
     let r = neither (namesThreadOf a b) (namesThreadOf b a) .0 (p .1) in
     let s = neither (same (named (touched a)) (just (b .thread))) (same (named (touched a)) (named (touched b))) .0 (r .0) in
     let u = neither (same (named (touched b)) (just (a .thread))) (same (named (touched b)) (named (touched a))) .0 (r .1) in
-    record { locks = q .1; acting = s .0; naming = s .1; acted = u .0 }
+    let la = sym (lock-touched (a .operation)) in
+    let lb = sym (lock-touched (b .operation)) in
+    let na = sym (name-touched (a .operation)) in
+    let nb = sym (name-touched (b .operation)) in
+    record { locks = rw (la, lb) (q .1); acting = rw na (s .0); naming = rw (na, nb) (s .1); acted = rw nb (u .0) }
 
 -- ---- the numbers 10 to 14
 
 -- the first of them whose condition the event meets; 0 where none
 abbrev ruleNumber : List Event → Event → ℕ
-ruleNumber past e = firstMet (row 10 (joined past (e .thread)) ∷ operationRow past (e .thread) (e .operation) ∷ [])
+ruleNumber past e = firstMet (row 10 (joined past (e .thread)) ∷ effectRows past (e .thread) (effectOf e))
 
 -- it does not change when an event is put before or taken away which this one is independent of
 put-before : (a b : Event) (past : List Event) → dependent a b ≡ false → ruleNumber (a ∷ past) b ≡ ruleNumber past b
 unfolding some lockOf
 put-before a b past i =
-    rw (not-joined (b .thread) (a .operation) (d .acting), by-operation (b .operation) (d .locks) (d .naming) (d .acted))
+    rw (not-joined (b .thread) (effectOf a) (d .acting), by-effect (effectOf b) (d .locks) (d .naming) (d .acted))
   where
     d : Independent a b
     d = independent a b i
 
-    by-operation : (op : Operation) → same (lock (touched a)) (lock (touches op)) ≡ false
-        → same (named (touched a)) (named (touches op)) ≡ false → same (named (touches op)) (just (a .thread)) ≡ false
-        → operationRow (a ∷ past) (b .thread) op ≡ operationRow past (b .thread) op
-    by-operation (Read v) l n m = refl
-    by-operation (Write v k) l n m = refl
-    by-operation (Acquire k) l n m = rw (lock-kept k (a .thread) (a .operation) (lockOf past k) l)
-    by-operation (Release k) l n m = rw (lock-kept k (a .thread) (a .operation) (lockOf past k) l)
-    by-operation (Fork c) l n m = rw (eqb-comm (a .thread) c, m, names-touched c (a .operation), n)
-    by-operation (Join c) l n m = rw (not-joined c (a .operation) n)
-    by-operation (Mark k) l n m = refl
+    by-effect : (f : Effect) → same (lockIn (effectOf a)) (lockIn f) ≡ false → same (namedIn (effectOf a)) (namedIn f) ≡ false
+        → same (namedIn f) (just (a .thread)) ≡ false → effectRows (a ∷ past) (b .thread) f ≡ effectRows past (b .thread) f
+    by-effect (Acquires k) l n m = rw (lock-kept k (a .thread) (effectOf a) (lockOf past k) l)
+    by-effect (Releases k) l n m = rw (lock-kept k (a .thread) (effectOf a) (lockOf past k) l)
+    by-effect (Forks c) l n m = rw (eqb-comm (a .thread) c, m, names-same c (effectOf a), n)
+    by-effect (Joins c) l n m = rw (not-joined c (effectOf a) n)
+    by-effect Nothing l n m = refl
 
 -- an event taken after g is taken after h, where there is room and the numbers 10 to 14 are given alike
 taken-after : (g h : List Event) (e : Event) → ruleNumber g e ≡ ruleNumber h e → length h < events → refusalAfter g e ≡ 0
@@ -122,16 +154,14 @@ record Alike (g h : List Event) : Type 0 where
   on-lock : (l : ℕ) → lockOf g l ≡ lockOf h l
 
 alike-number : {g h : List Event} → Alike g h → (e : Event) → ruleNumber g e ≡ ruleNumber h e
-alike-number {g} {h} s e = rw (s .on-joined (e .thread), by-operation (e .operation))
+alike-number {g} {h} s e = rw (s .on-joined (e .thread), by-effect (effectOf e))
   where
-    by-operation : (op : Operation) → operationRow g (e .thread) op ≡ operationRow h (e .thread) op
-    by-operation (Read v) = refl
-    by-operation (Write v k) = refl
-    by-operation (Acquire l) = rw (s .on-lock l)
-    by-operation (Release l) = rw (s .on-lock l)
-    by-operation (Fork c) = rw (s .on-known c)
-    by-operation (Join c) = rw (s .on-joined c)
-    by-operation (Mark m) = refl
+    by-effect : (f : Effect) → effectRows g (e .thread) f ≡ effectRows h (e .thread) f
+    by-effect (Acquires l) = rw (s .on-lock l)
+    by-effect (Releases l) = rw (s .on-lock l)
+    by-effect (Forks c) = rw (s .on-known c)
+    by-effect (Joins c) = rw (s .on-joined c)
+    by-effect Nothing = refl
 
 alike-cons : (e : Event) {g h : List Event} → Alike g h → Alike (e ∷ g) (e ∷ h)
 unfolding some lockOf
@@ -158,25 +188,25 @@ not-both (just i) y l h = by-test (eqb i l) (λ q. inr (same-comm y (just l) ∙
 
 -- the lock l after the event
 abbrev after : Event → ℕ → Lock → Lock
-after e l k = lockAfter l (e .thread) (e .operation) k
+after e l k = lockAfter l (e .thread) (effectOf e) k
 
 alike-swapped : (a b : Event) (past : List Event) → dependent a b ≡ false → Alike (b ∷ a ∷ past) (a ∷ b ∷ past)
 unfolding some lockOf
 alike-swapped a b past i =
     record {
       as-long = refl;
-      on-joined = λ t. or-left (joins t (b .operation)) (joins t (a .operation)) (joined past t);
-      on-known = λ t. or-left (actsAs t b || namesIt t b) (actsAs t a || namesIt t a) (actedOrNamed past t);
-      on-lock = λ l. one-keeps l (lockOf past l) (not-both (lock (touched a)) (lock (touched b)) l (independent a b i .locks));
+      on-joined = λ t. or-left (joinsThread t (effectOf b)) (joinsThread t (effectOf a)) (joined past t);
+      on-known = λ t. or-left (actsAs t b || namesThread t (effectOf b)) (actsAs t a || namesThread t (effectOf a)) (actedOrNamed past t);
+      on-lock = λ l. one-keeps l (lockOf past l) (not-both (lockIn (effectOf a)) (lockIn (effectOf b)) l (independent a b i .locks));
     }
   where
-    keeps : (e f : Event) (l : ℕ) (k : Lock) → same (lock (touched e)) (just l) ≡ false
+    keeps : (e f : Event) (l : ℕ) (k : Lock) → same (lockIn (effectOf e)) (just l) ≡ false
         → after f l (after e l k) ≡ after e l (after f l k)
     keeps e f l k h =
-        ap (after f l) (lock-kept l (e .thread) (e .operation) k h)
-        ∙ sym (lock-kept l (e .thread) (e .operation) (after f l k) h)
+        ap (after f l) (lock-kept l (e .thread) (effectOf e) k h)
+        ∙ sym (lock-kept l (e .thread) (effectOf e) (after f l k) h)
 
-    one-keeps : (l : ℕ) (k : Lock) → (same (lock (touched a)) (just l) ≡ false) ⊎ (same (lock (touched b)) (just l) ≡ false)
+    one-keeps : (l : ℕ) (k : Lock) → (same (lockIn (effectOf a)) (just l) ≡ false) ⊎ (same (lockIn (effectOf b)) (just l) ≡ false)
         → after b l (after a l k) ≡ after a l (after b l k)
     one-keeps l k (inl h) = keeps a b l k h
     one-keeps l k (inr h) = sym (keeps b a l k h)

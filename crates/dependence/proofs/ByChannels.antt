@@ -9,7 +9,9 @@ use mathlib.Core.List.{_∷_}
 use lib.Dec.{eqb}
 use Rattle.event.specs.declared.Event.{Event}
 use Rattle.trace.proofs.Lists.{any}
-use Rattle.dependence.specs.Dependence.{Touch, reads, writes, locks, names, nothing, touched}
+use Rattle.event.specs.declared.Touch.{Touch}
+use Rattle.event.specs.declared.Touch.the-variants.{Reads, Writes, Locks, Names, Nothing}
+use Rattle.event.specs.Effects.{touched}
 use Rattle.dependence.specs.Dependence.{variable, lock, named, isWrite, same, sameThread, dependent}
 use Rattle.dependence.specs.Channels.{thread, heardAt, tells, hears}
 use Rattle.dependence.proofs.Sameness.{eqb-comm, same-comm, or-left}
@@ -55,18 +57,18 @@ by-channels a b = go (touched b)
     go : (y : Touch) → sameThread a b || same (variable x) (variable y) && (isWrite x || isWrite y) || same (lock x) (lock y)
         || (acting || same (named x) (named y) || (same (named y) (some (a .thread)) || same (named y) (named x)))
         ≡ any (tells a) (thread (b .thread) ∷ heardAt y)
-    go (reads v) =
+    go (Reads v) =
         rw (same-none (lock x), same-none (named x))
         (at-read (sameThread a b) (same (variable x) (some v)) (isWrite x) acting)
-    go (writes v) =
+    go (Writes v) =
         rw (same-none (lock x), same-none (named x))
         (at-write (sameThread a b) (same (variable x) (some v)) (isWrite x) acting)
-    go (locks l) =
+    go (Locks l) =
         rw (same-none (variable x), same-none (named x))
         (at-lock (sameThread a b) (same (lock x) (some l)) acting)
-    go (names t) =
+    go (Names t) =
         rw (same-none (variable x), same-none (lock x), eqb-comm t (a .thread), same-comm (some t) (named x))
         (at-name (sameThread a b) acting (same (named x) (some t)) (eqb (a .thread) t))
-    go nothing =
+    go Nothing =
         rw (same-none (variable x), same-none (lock x), same-none (named x))
         (at-lock (sameThread a b) false acting)

@@ -7,7 +7,8 @@ use Rattle.event.specs.declared.Event.{Event}
 use Rattle.event.specs.Slots.{fits}
 use Rattle.event.proofs.OneSlot.{fits-thread}
 use Rattle.trace.proofs.Greatest.{LawL}
-use Rattle.dependence.specs.Dependence.{touched, variable, lock, isWrite, namesThreadOf, dependent}
+use Rattle.event.specs.Effects.{touched}
+use Rattle.dependence.specs.Dependence.{variable, lock, isWrite, namesThreadOf, dependent}
 use Rattle.dependence.proofs.Sameness.{eqb-comm, same-comm}
 
 pub symmetric : (a b : Event) → dependent a b ≡ dependent b a

@@ -7,7 +7,9 @@ use mathlib.Core.Option.{some}
 use mathlib.Core.List.{List, [], _∷_}
 use lib.Dec.{eqb}
 use Rattle.event.specs.declared.Event.{Event}
-use Rattle.dependence.specs.Dependence.{Touch, reads, writes, locks, names, nothing, touched}
+use Rattle.event.specs.declared.Touch.{Touch}
+use Rattle.event.specs.declared.Touch.the-variants.{Reads, Writes, Locks, Names, Nothing}
+use Rattle.event.specs.Effects.{touched}
 use Rattle.dependence.specs.Dependence.{variable, lock, named, isWrite, same}
 
 -- a thread, the reads of a variable, its writes, and a lock
@@ -22,11 +24,11 @@ tells e (writesOf v) = isWrite (touched e) && same (variable (touched e)) (some 
 tells e (lockOf l) = same (lock (touched e)) (some l)
 
 abbrev pub heardAt : Touch → List Channel
-heardAt (reads v) = writesOf v ∷ []
-heardAt (writes v) = writesOf v ∷ readsOf v ∷ []
-heardAt (locks l) = lockOf l ∷ []
-heardAt (names t) = thread t ∷ []
-heardAt nothing = []
+heardAt (Reads v) = writesOf v ∷ []
+heardAt (Writes v) = writesOf v ∷ readsOf v ∷ []
+heardAt (Locks l) = lockOf l ∷ []
+heardAt (Names t) = thread t ∷ []
+heardAt Nothing = []
 
 -- an event hears its own thread, and what it touches: a read only the writes of its variable
 abbrev pub hears : Event → List Channel

@@ -4,55 +4,39 @@ use Prim.Native.Nat.{ℕ}
 use mathlib.Core.Bool.{Bool, true, false, _&&_, _||_}
 use mathlib.Core.Option.{Option, some, none}
 use lib.Dec.{eqb}
-use Rattle.event.specs.declared.Operation.{Operation}
-use Rattle.event.specs.declared.Operation.the-variants.{Read, Write, Acquire, Release, Fork, Join, Mark}
+use Rattle.event.specs.declared.Touch.{Touch}
+use Rattle.event.specs.declared.Touch.the-variants.{Reads, Writes, Locks, Names, Nothing}
 use Rattle.event.specs.declared.Event.{Event}
-
--- what an operation touches: a variable, which it reads or writes; a lock; a thread, which it names by forking or joining it
-pub data Touch : Type 0 where
-  reads writes locks names : ℕ → Touch
-  nothing : Touch
-
-abbrev pub touches : Operation → Touch
-touches (Read v) = reads v
-touches (Write v h) = writes v
-touches (Acquire l) = locks l
-touches (Release l) = locks l
-touches (Fork c) = names c
-touches (Join c) = names c
-touches (Mark m) = nothing
-
-abbrev pub touched : Event → Touch
-touched e = touches (e .operation)
+use Rattle.event.specs.Effects.{touched}
 
 -- the variable touched, the lock touched, and the thread forked or joined; `none` where there is none
 abbrev pub variable : Touch → Option ℕ
-variable (reads v) = some v
-variable (writes v) = some v
-variable (locks l) = none
-variable (names t) = none
-variable nothing = none
+variable (Reads v) = some v
+variable (Writes v) = some v
+variable (Locks l) = none
+variable (Names t) = none
+variable Nothing = none
 
 abbrev pub lock : Touch → Option ℕ
-lock (reads v) = none
-lock (writes v) = none
-lock (locks l) = some l
-lock (names t) = none
-lock nothing = none
+lock (Reads v) = none
+lock (Writes v) = none
+lock (Locks l) = some l
+lock (Names t) = none
+lock Nothing = none
 
 abbrev pub named : Touch → Option ℕ
-named (reads v) = none
-named (writes v) = none
-named (locks l) = none
-named (names t) = some t
-named nothing = none
+named (Reads v) = none
+named (Writes v) = none
+named (Locks l) = none
+named (Names t) = some t
+named Nothing = none
 
 abbrev pub isWrite : Touch → Bool
-isWrite (reads v) = false
-isWrite (writes v) = true
-isWrite (locks l) = false
-isWrite (names t) = false
-isWrite nothing = false
+isWrite (Reads v) = false
+isWrite (Writes v) = true
+isWrite (Locks l) = false
+isWrite (Names t) = false
+isWrite Nothing = false
 
 -- both are there, and they are equal
 abbrev pub same : Option ℕ → Option ℕ → Bool

@@ -2,3 +2,4 @@ pub mod Tests
 pub mod Tags
 pub mod InRange
 pub mod OneSlot
+pub mod Filled

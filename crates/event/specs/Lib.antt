@@ -2,3 +2,4 @@ pub mod Slots
 pub mod Keys
 pub mod Limits
 pub mod Range
+pub mod Effects
