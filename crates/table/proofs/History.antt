@@ -7,22 +7,22 @@ use mathlib.Core.Bool.{Bool, true, false, cond}
 use mathlib.Core.List.{List, [], _∷_, _++_}
 use native.Mathlib.Decide.{ℕ-discrete}
 use native.Mathlib.Omega.{arith}
-use lib.ListN.{length, getD, set, take, drop, length-set, List·getD-append}
+use lib.ListN.{length, getD, set, take, drop, length-set}
 use lib.Seq.{split-at, set-split, getD-set-other, length-take-le}
 use lib.Pow.{pow-mono}
 use borrow.Author.Tests.{lt-ltb, le-leb}
 use Rattle.event.specs.declared.Event.{Event}
 use Rattle.event.specs.declared.Slot.{Slot}
 use Rattle.event.specs.Limits.{threads, slots}
-use Rattle.event.specs.Slots.{fits}
+use Rattle.event.specs.Slots.{fits, noSlot, noEvent}
 use Rattle.event.proofs.Tests.{by-test}
 use Rattle.trace.proofs.Lists.{length-snoc, both-ways}
 use Rattle.trace.proofs.Numbers.{numbered-among, numbered-at}
 use Rattle.clock.specs.declared.Stamp.{Stamp}
 use Rattle.table.specs.declared.Entry.{Entry}
 use Rattle.table.specs.Sets.{width, sets, size, spread}
-use Rattle.table.specs.Table.{noSlot, limitsTo, limitsAfter, placeBy, sweptTo, slotOffered, offeredDown, offered}
-use Rattle.table.specs.Keeps.{noEvent, setNumber, rowIn, Keeping, Keeps, Follows}
+use Rattle.table.specs.Table.{limitsTo, limitsAfter, placeBy, sweptTo, slotOffered, offeredDown, offered}
+use Rattle.table.specs.Keeps.{setNumber, rowIn, Keeping, Keeps, Follows}
 use Rattle.table.proofs.SetLaws.{with-slot, all-spread}
 use Rattle.table.proofs.RowLaws.{Step}
 use Rattle.table.proofs.SweepLaws.{swept-length, swept-still, swept-step}
@@ -52,8 +52,8 @@ module _ (bs : List Bool) (k : ℕ) (low : k < length bs) where
       ap₂ (λ (m j : ℕ). m / 2 ^ j % 2) (ap setNumber (set-split bs k false low)) (sym front)
       ∙ number-bit (take k bs) false (drop (suc k) bs)
 
-module _ {ss : List Slot} {log : List Event} {pattern : List Slot} {n : ℕ} {e : Event} {stamp : Stamp} {number : ℕ}
-    (ready : Ready ss log pattern n e stamp number) where
+module _ {ss : List Slot} {log : List Event} {acting : List ℕ} {marked : List Bool} {n : ℕ} {e : Event} {stamp : Stamp} {number : ℕ}
+    (ready : Ready ss log acting marked n e stamp number) where
   abbrev longer : List Event
   longer = log ++ (e ∷ [])
 
@@ -84,14 +84,11 @@ module _ {ss : List Slot} {log : List Event} {pattern : List Slot} {n : ℕ} {e 
 
   module _ (k : ℕ) (k-low : k < length ss) where
     abbrev entry : Entry
-    entry = record { slot = k; place = placeBy e stamp; number = number }
-
-    pattern-k : getD pattern k noSlot ≡ getD ss k noSlot
-    pattern-k = rw (ready .follows .pattern-is) (List·getD-append ss _ noSlot k k-low)
+    entry = record { slot = k; place = placeBy (e .thread) stamp; number = number }
 
     module _ (new-fits : fits (getD ss k noSlot) e ≡ true) (table : List ℕ) (h : State (suc k) table) where
       abbrev after : List ℕ
-      after = sweptTo (2 ^ n / 2) table (limitsAfter pattern k stamp) entry
+      after = sweptTo (2 ^ n / 2) table (limitsAfter acting k stamp) entry
 
       k-slot : k < slots
       k-slot = let s = ready .short in omega arith
@@ -103,7 +100,7 @@ module _ {ss : List Slot} {log : List Event} {pattern : List Slot} {n : ℕ} {e 
         outside : getD bs k false ≡ false → Mid k bs (rowIn after (setNumber bs))
         outside t =
             mid-same
-            (λ j l. sym (swept-still table (limitsAfter pattern k stamp) entry (h .whole) k-slot (2 ^ n / 2) (setNumber bs) j l (not-there (bit-number bs k k-bit false t))))
+            (λ j l. sym (swept-still table (limitsAfter acting k stamp) entry (h .whole) k-slot (2 ^ n / 2) (setNumber bs) j l (not-there (bit-number bs k k-bit false t))))
             (mid-over (λ u. absurd (both-ways u t)) (h .rows bs len))
           where
             not-there : setNumber bs / 2 ^ k % 2 ≡ 0 → setNumber bs / 2 ^ k % 2 ≡ 1 → ⊥
@@ -134,10 +131,10 @@ module _ {ss : List Slot} {log : List Event} {pattern : List Slot} {n : ℕ} {e 
                 let q : 2 ^ n ≤ sets = pow-mono p in
                 with-slot k i k-slot (omega arith)
 
-            step : Step (limitsTo slots pattern k stamp) entry (rowIn table (setNumber less)) (rowIn table (setNumber bs)) (rowIn after (setNumber bs))
+            step : Step (limitsTo slots acting k stamp) entry (rowIn table (setNumber less)) (rowIn table (setNumber bs)) (rowIn after (setNumber bs))
             step =
                 rw (less-number bs k k-bit t, turn .2)
-                (swept-step table (limitsAfter pattern k stamp) entry (h .whole) k-slot (2 ^ n / 2) (turn .0) (turn .1) (in-sets (turn .0) (turn .1)))
+                (swept-step table (limitsAfter acting k stamp) entry (h .whole) k-slot (2 ^ n / 2) (turn .0) (turn .1) (in-sets (turn .0) (turn .1)))
 
             bit : (j : ℕ) → suc k ≤ j → getD less j false ≡ getD bs j false
             bit j l = getD-set-other bs k j false false (λ p. let z : ⊥ = omega arith in z)
@@ -152,33 +149,33 @@ module _ {ss : List Slot} {log : List Event} {pattern : List Slot} {n : ℕ} {e 
       swept-state : State k after
       swept-state =
           record {
-            whole = swept-length table (limitsAfter pattern k stamp) entry (h .whole) k-slot (2 ^ n / 2);
+            whole = swept-length table (limitsAfter acting k stamp) entry (h .whole) k-slot (2 ^ n / 2);
             rows = λ bs len. by-test (getD bs k false) (inside bs len) (outside bs len);
           }
 
     -- whether the event fits the slot or not
-    slot-state : (table : List ℕ) → State (suc k) table → State k (slotOffered table pattern (2 ^ n / 2) e stamp entry)
+    slot-state : (table : List ℕ) → State (suc k) table → State k (slotOffered table acting marked (2 ^ n / 2) stamp entry)
     unfolding slotOffered
     slot-state table h =
-        rw pattern-k
+        rw (ready .follows .fit-is k k-low)
         (by-test (fits (getD ss k noSlot) e)
         (λ q. rw q (swept-state q table h))
         (λ q. rw q (record { whole = h .whole; rows = λ bs len. mid-over (λ t. q) (h .rows bs len) })))
 
   -- ---- every slot
 
-  down-state : (k : ℕ) (table : List ℕ) → k ≤ length ss → State k table → State 0 (offeredDown k table pattern n e stamp number)
+  down-state : (k : ℕ) (table : List ℕ) → k ≤ length ss → State k table → State 0 (offeredDown k table acting marked n (e .thread) stamp number)
   unfolding offeredDown
   down-state zero table l h = h
   down-state (suc k) table l h =
-      down-state k (slotOffered table pattern (2 ^ n / 2) e stamp (entry k l)) (omega arith) (slot-state k l table h)
+      down-state k (slotOffered table acting marked (2 ^ n / 2) stamp (entry k l)) (omega arith) (slot-state k l table h)
 
-  pub follows-kept : (table : List ℕ) → Keeps ss log table → Keeps ss longer (offered table pattern n e stamp number)
+  pub follows-kept : (table : List ℕ) → Keeps ss log table → Keeps ss longer (offered table acting marked n (e .thread) stamp number)
   unfolding offered
   follows-kept table h =
       let p = ready .follows .size-is in
       rw (lt-ltb (e .thread) threads (ready .follows .thread-low), le-leb n slots (rw p (ready .short)))
-      (subst (λ (m : ℕ). Keeps ss longer (offeredDown m table pattern n e stamp number)) (sym p) all)
+      (subst (λ (m : ℕ). Keeps ss longer (offeredDown m table acting marked n (e .thread) stamp number)) (sym p) all)
     where
       start : State (length ss) table
       start =
@@ -187,14 +184,14 @@ module _ {ss : List Slot} {log : List Event} {pattern : List Slot} {n : ℕ} {e 
             rows = λ bs len. unmet (λ j l t. absurd (let u = bit-within bs j t in let z : ⊥ = omega arith in z)) (h .rows bs len);
           }
 
-      over : State 0 (offeredDown (length ss) table pattern n e stamp number)
+      over : State 0 (offeredDown (length ss) table acting marked n (e .thread) stamp number)
       over = down-state (length ss) table (omega arith) start
 
       last : (bs : List Bool) (r : ℕ → ℕ) → length bs ≡ length ss → Mid 0 bs r → Keeping ss longer bs r
       last bs r len (met j l t f k) = k
       last bs r len (unmet d k) = unfit ready bs r len (λ j t. d j (omega arith) t) k
 
-      all : Keeps ss longer (offeredDown (length ss) table pattern n e stamp number)
+      all : Keeps ss longer (offeredDown (length ss) table acting marked n (e .thread) stamp number)
       all =
           record {
             whole = over .whole;
@@ -205,6 +202,6 @@ module _ {ss : List Slot} {log : List Event} {pattern : List Slot} {n : ℕ} {e 
           }
 
 -- the event that follows is offered
-pub offer-kept : (ss : List Slot) (log : List Event) (pattern : List Slot) (n : ℕ) (e : Event) (stamp : Stamp) (number : ℕ) (table : List ℕ)
-    → Keeps ss log table → Follows ss log pattern n e stamp number → Keeps ss (log ++ (e ∷ [])) (offered table pattern n e stamp number)
-offer-kept ss log pattern n e stamp number table h f = follows-kept (record { follows = f; short = h .short; low = h .low }) table h
+pub offer-kept : (ss : List Slot) (log : List Event) (acting : List ℕ) (marked : List Bool) (n : ℕ) (e : Event) (stamp : Stamp) (number : ℕ) (table : List ℕ)
+    → Keeps ss log table → Follows ss log acting marked n e stamp number → Keeps ss (log ++ (e ∷ [])) (offered table acting marked n (e .thread) stamp number)
+offer-kept ss log acting marked n e stamp number table h f = follows-kept (record { follows = f; short = h .short; low = h .low }) table h

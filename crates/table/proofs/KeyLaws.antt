@@ -1,4 +1,4 @@
--- An event whose key is none of the slots' fits no slot, and offering it changes nothing.
+-- An event whose key is none of the slots' fits no slot.
 -- Assumes nothing.
 use Prim.Native.Nat.{ℕ, zero, suc, _+_, _*_, _<_, _≤_}
 use mathlib.Core.Path.{_≡_, refl, sym, ap, _∙_}
@@ -11,12 +11,10 @@ use lib.ListN.{getD}
 use borrow.Author.Tests.{eq-eqb, eqb-true, leb-true}
 use Rattle.event.specs.declared.Event.{Event}
 use Rattle.event.specs.declared.Slot.{Slot}
-use Rattle.event.specs.Limits.{threads, slots}
-use Rattle.event.specs.Slots.{byteOf, objectOf, withoutHeight, sameOperation, fits, slotOf}
+use Rattle.event.specs.Limits.{slots}
+use Rattle.event.specs.Slots.{byteOf, objectOf, withoutHeight, sameOperation, fits, slotOf, noSlot}
 use Rattle.event.proofs.Tests.{by-test}
-use Rattle.clock.specs.declared.Stamp.{Stamp}
-use Rattle.table.specs.Table.{noSlot, placeBy, slotOffered, offeredDown, offered}
-use Rattle.table.specs.Keys.{KeysOf, wantsTo, Idle}
+use Rattle.table.specs.Keys.{KeysOf, wantsTo}
 use Rattle.event.specs.Keys.{keyOf}
 
 fits-key : (s : Slot) (e : Event) → fits s e ≡ true → keyOf s ≡ keyOf (slotOf e)
@@ -40,23 +38,9 @@ unwanted (suc n) keys k h j l q =
     go (yes p) ih y = false≢true (sym y ∙ eq-eqb (getD keys n 0) k (rw p at q))
     go (no d) ih y = ih j (omega arith) q
 
--- slots that the event does not fit
-module _ (pattern : List Slot) (e : Event) (none : (j : ℕ) → j < slots → fits (getD pattern j noSlot) e ≡ false) where
-  still : (k n : ℕ) (table : List ℕ) (stamp : Stamp) (number : ℕ) → k ≤ slots → offeredDown k table pattern n e stamp number ≡ table
-  unfolding offeredDown slotOffered
-  still zero n table stamp number l = refl
-  still (suc k) n table stamp number l = rw (none k (omega arith)) (still k n table stamp number (omega arith))
-
-  idle : Idle pattern e
-  unfolding offered
-  idle table n stamp number =
-      by-test (ltb (e .thread) threads)
-      (λ q. by-test (leb n slots) (λ r. rw (q, r) (still n n table stamp number (leb-true n slots r))) (λ r. rw (q, r) refl))
-      (λ q. rw q refl)
-
-pub unwanted-idle : (pattern : List Slot) (keys : List ℕ) (e : Event) → KeysOf pattern keys → wantsTo slots keys (keyOf (slotOf e)) ≡ false → Idle pattern e
-unwanted-idle pattern keys e h w =
-    idle pattern e (λ j l.
+pub unwanted-unfit : (pattern : List Slot) (keys : List ℕ) (e : Event) → KeysOf pattern keys → wantsTo slots keys (keyOf (slotOf e)) ≡ false
+    → (j : ℕ) → j < slots → fits (getD pattern j noSlot) e ≡ false
+unwanted-unfit pattern keys e h w j l =
     by-test (fits (getD pattern j noSlot) e)
     (λ q. absurd (unwanted slots keys (keyOf (slotOf e)) w j l (h .each j l ∙ fits-key (getD pattern j noSlot) e q)))
-    (λ q. q))
+    (λ q. q)

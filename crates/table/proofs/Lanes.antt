@@ -10,12 +10,12 @@ use native.Mathlib.Decide.{ℕ-discrete, decLt}
 use native.Mathlib.Omega.{arith}
 use native.Mathlib.Numerals.{add-one}
 use lib.Dec.{eqb, leb, ltb}
-use lib.ListN.{length, getD, List·getD-append}
+use lib.ListN.{length, getD}
 use borrow.Author.Tests.{lt-ltb, ltb-true, eq-eqb}
 use Rattle.event.specs.declared.Event.{Event}
 use Rattle.event.specs.declared.Slot.{Slot}
 use Rattle.event.specs.Limits.{threads, slots, events}
-use Rattle.event.specs.Slots.{fits}
+use Rattle.event.specs.Slots.{fits, noSlot, noEvent}
 use Rattle.event.proofs.OneSlot.{fits-thread}
 use Rattle.event.proofs.Tests.{by-test}
 use Rattle.trace.specs.Before.{Numbered}
@@ -33,8 +33,8 @@ use Rattle.dependence.specs.Order.{threadOf}
 use Rattle.dependence.proofs.Dependent.{one-thread, fit-one-slot}
 use Rattle.clock.specs.declared.Stamp.{Stamp}
 use Rattle.table.specs.Sets.{lanes}
-use Rattle.table.specs.Table.{noSlot, limitAt, limitsTo, placeBy}
-use Rattle.table.specs.Keeps.{noEvent, placeIn, numbersOf, Follows}
+use Rattle.table.specs.Table.{limitAt, limitsTo, placeBy}
+use Rattle.table.specs.Keeps.{placeIn, numbersOf, Follows}
 use Rattle.table.proofs.RowLaws.{limits-beyond, limits-at}
 use Rattle.table.proofs.BitLaws.{bit-within, mem-pick, fitting-at, listed-length, listed-at}
 
@@ -71,13 +71,13 @@ module _ (dep : ℕ → ℕ → Bool) (fit : Slot → ℕ → Bool) (ss : List S
       (fitting-at fit bs ss (numbersOf (length ss) r) noSlot 0 (listed-length (length ss) (λ i. r (lanes + i))) (good .fit) j there j-low)
 
 -- an event follows those of the log, whose threads are within the limit, and so is the pattern's length
-pub record Ready (ss : List Slot) (log : List Event) (pattern : List Slot) (n : ℕ) (e : Event) (stamp : Stamp) (number : ℕ) : Type 0 where
-  pub follows : Follows ss log pattern n e stamp number
+pub record Ready (ss : List Slot) (log : List Event) (acting : List ℕ) (marked : List Bool) (n : ℕ) (e : Event) (stamp : Stamp) (number : ℕ) : Type 0 where
+  pub follows : Follows ss log acting marked n e stamp number
   pub short : length ss ≤ slots
   pub low : (i : ℕ) (a : Event) → Numbered log i a → a .thread < threads
 
-module _ {ss : List Slot} {log : List Event} {pattern : List Slot} {n : ℕ} {e : Event} {stamp : Stamp} {number : ℕ}
-    (ready : Ready ss log pattern n e stamp number) where
+module _ {ss : List Slot} {log : List Event} {acting : List ℕ} {marked : List Bool} {n : ℕ} {e : Event} {stamp : Stamp} {number : ℕ}
+    (ready : Ready ss log acting marked n e stamp number) where
   -- the list with the event that follows, and that event's number
   abbrev pub longer : List Event
   longer = log ++ (e ∷ [])
@@ -138,7 +138,7 @@ module _ {ss : List Slot} {log : List Event} {pattern : List Slot} {n : ℕ} {e 
       ∙ ap (λ (t : ℕ). stampOf noEvent dependent threadOf longer next t) new-thread
       ∙ stamp-at (e .thread) (ready .follows .thread-low)
 
-  pub new-place : placeBy e stamp + 1 ≡ placeIn longer next
+  pub new-place : placeBy (e .thread) stamp + 1 ≡ placeIn longer next
   new-place = let h = own-positive thread (length log) in let p = own-place in omega arith
 
   -- ---- an event at a slot of a row
@@ -174,28 +174,25 @@ module _ {ss : List Slot} {log : List Event} {pattern : List Slot} {n : ℕ} {e 
 
   -- ---- limits
 
-  pattern-at : (j : ℕ) → j < length ss → getD pattern j noSlot ≡ getD ss j noSlot
-  pattern-at j l = rw (ready .follows .pattern-is) (List·getD-append ss _ noSlot j l)
-
   module _ (k : ℕ) where
     abbrev pub limit : ℕ → ℕ
-    limit j = getD (limitsTo slots pattern k stamp) j 0
+    limit j = getD (limitsTo slots acting k stamp) j 0
 
     abbrev by-slot : ℕ → ℕ
-    by-slot j = limitAt (getD pattern j noSlot) (ltb k j) stamp
+    by-slot j = limitAt (getD acting j 0) (ltb k j) stamp
 
     pub limit-is : (j : ℕ) → k < j → j < length ss → getD ss j noSlot .thread < threads
         → limit j ≡ getD (stamp .at) (getD ss j noSlot .thread) 0
     limit-is j l u t =
-        limits-at pattern k stamp slots j (omega arith) (omega arith)
-        ∙ (rw (pattern-at j u, lt-ltb k j l, lt-ltb (getD ss j noSlot .thread) threads t))
+        limits-at acting k stamp slots j (omega arith) (omega arith)
+        ∙ (rw (ready .follows .acting-is j u, lt-ltb k j l, lt-ltb (getD ss j noSlot .thread) threads t))
 
     by-slot-small : (j : ℕ) → by-slot j ≤ next
     by-slot-small j =
         by-test (ltb k j)
         (λ p.
-        by-test (ltb (getD pattern j noSlot .thread) threads)
-        (λ q. rw (p, q) (stamp-small (getD pattern j noSlot .thread) (ltb-true _ _ q)))
+        by-test (ltb (getD acting j 0) threads)
+        (λ q. rw (p, q) (stamp-small (getD acting j 0) (ltb-true _ _ q)))
         (λ q. rw (p, q) (omega arith)))
         (λ p. rw p (omega arith))
 
@@ -206,8 +203,8 @@ module _ {ss : List Slot} {log : List Event} {pattern : List Slot} {n : ℕ} {e 
     limit-cases j l = go (decLt j slots)
       where
         go : Dec (j < slots) → (limit j ≡ by-slot j) ⊎ (limit j ≡ 0)
-        go (yes u) = inl (limits-at pattern k stamp slots j u (omega arith))
-        go (no d) = inr (limits-beyond pattern k stamp slots j (omega arith) l)
+        go (yes u) = inl (limits-at acting k stamp slots j u (omega arith))
+        go (no d) = inr (limits-beyond acting k stamp slots j (omega arith) l)
 
     pub limit-small : (j : ℕ) → j < lanes → limit j ≤ next
     limit-small j l = ⊎-elim (λ p. rw p (by-slot-small j)) (λ p. rw p (omega arith)) (limit-cases j l)

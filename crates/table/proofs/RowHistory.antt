@@ -14,7 +14,7 @@ use borrow.Author.Tests.{le-leb, lt-leb}
 use Rattle.event.specs.declared.Event.{Event}
 use Rattle.event.specs.declared.Slot.{Slot}
 use Rattle.event.specs.Limits.{slots}
-use Rattle.event.specs.Slots.{fits}
+use Rattle.event.specs.Slots.{fits, noSlot, noEvent}
 use Rattle.event.proofs.Tests.{by-test}
 use Rattle.trace.proofs.Lists.{length-snoc, both-ways}
 use Rattle.trace.proofs.Runs.{Among}
@@ -29,8 +29,8 @@ use Rattle.dependence.proofs.Dependent.{fit-one-slot}
 use Rattle.clock.specs.declared.Stamp.{Stamp}
 use Rattle.table.specs.declared.Entry.{Entry}
 use Rattle.table.specs.Sets.{lanes, width, held}
-use Rattle.table.specs.Table.{noSlot, limitsTo, placeBy}
-use Rattle.table.specs.Keeps.{noEvent, Greatest, placeIn, numbersOf, Filled, Keeping, kept, missing}
+use Rattle.table.specs.Table.{limitsTo, placeBy}
+use Rattle.table.specs.Keeps.{Greatest, placeIn, numbersOf, Filled, Keeping, kept, missing}
 use Rattle.table.proofs.RowLaws.{Step, no-row, no-room, joins}
 use Rattle.table.proofs.BitLaws.{bit-within, pick-mem, mem-pick, listed-length, listed-at, listed-same}
 use Rattle.table.proofs.Lanes as lanes-of
@@ -60,8 +60,8 @@ module _ (ss : List Slot) (short : length ss ≤ slots) (log : List Event) (bs :
         no-number = λ j l t. sym (same (lanes + j) (omega arith)) ∙ f .no-number j l t;
       })
 
-module _ {ss : List Slot} {log : List Event} {pattern : List Slot} {n : ℕ} {e : Event} {stamp : Stamp} {number : ℕ}
-    (ready : Ready ss log pattern n e stamp number) where
+module _ {ss : List Slot} {log : List Event} {acting : List ℕ} {marked : List Bool} {n : ℕ} {e : Event} {stamp : Stamp} {number : ℕ}
+    (ready : Ready ss log acting marked n e stamp number) where
   abbrev longer : List Event
   longer = lanes-of.longer ready
 
@@ -132,10 +132,10 @@ module _ {ss : List Slot} {log : List Event} {pattern : List Slot} {n : ℕ} {e 
 
   module _ (k : ℕ) (k-low : k < length ss) (new-fits : fits (getD ss k noSlot) e ≡ true) where
     abbrev entry : Entry
-    entry = record { slot = k; place = placeBy e stamp; number = number }
+    entry = record { slot = k; place = placeBy (e .thread) stamp; number = number }
 
     abbrev limits : List ℕ
-    limits = limitsTo slots pattern k stamp
+    limits = limitsTo slots acting k stamp
 
     -- a set with the slot k, the row of the set without it, and what becomes of its own row
     module _ (bs : List Bool) (len : length bs ≡ length ss) (has-k : getD bs k false ≡ true) (from to new : ℕ → ℕ)
@@ -312,7 +312,7 @@ module _ {ss : List Slot} {log : List Event} {pattern : List Slot} {n : ℕ} {e 
                   subst (λ (x : ℕ). Mem x (pick b2 r2)) g (mem-pick b2 r2 0 (i - suc k) d u)
 
           -- none does: the new event joins the row of the set without k
-          module _ (room : (i : ℕ) → i < lanes → lanes-of.limit ready k i ≤ from i) (at-k : new k ≡ placeBy e stamp)
+          module _ (room : (i : ℕ) → i < lanes → lanes-of.limit ready k i ≤ from i) (at-k : new k ≡ placeBy (e .thread) stamp)
               (number-k : new (lanes + k) ≡ number)
               (others : (j : ℕ) → j < width → (j ≡ k → ⊥) → (j ≡ lanes + k → ⊥) → new j ≡ from j) where
             free : (m : ℕ) → Mem m (pick b2 r2) → before (lanes-of.depends ready) m next ≡ false

@@ -11,14 +11,13 @@ use lib.Dec.{eqb, leb, ltb}
 use lib.ListN.{length, getD, set, replicate, length-set, length-replicate, getD-replicate}
 use lib.Seq.{getD-set-same, getD-set-other}
 use borrow.Author.Tests.{leb-true, leb-false, eqb-true, eqb-false}
-use Rattle.event.specs.declared.Slot.{Slot}
 use Rattle.event.specs.Limits.{slots}
 use Rattle.event.proofs.Tests.{by-test}
 use Rattle.clock.specs.declared.Stamp.{Stamp}
 use Rattle.table.specs.declared.Limits.{Limits}
 use Rattle.table.specs.declared.Entry.{Entry}
 use Rattle.table.specs.Sets.{lanes, width, held, sets, size, rowOf}
-use Rattle.table.specs.Table.{put, rowAt, roomTo, roomIn, noSlot, limitAt, limitsTo, joined, setOffered}
+use Rattle.table.specs.Table.{put, rowAt, roomTo, roomIn, limitAt, limitsTo, joined, setOffered}
 use Rattle.table.specs.Keeps.{rowIn}
 use Rattle.table.proofs.SetLaws.{row-fits}
 
@@ -81,31 +80,31 @@ room-false (suc n) ps ls h =
 
 -- ---- limits
 
-module _ (pattern : List Slot) (k : ℕ) (stamp : Stamp) where
-  limits-length : (n : ℕ) → length (limitsTo n pattern k stamp) ≡ lanes
+module _ (acting : List ℕ) (k : ℕ) (stamp : Stamp) where
+  limits-length : (n : ℕ) → length (limitsTo n acting k stamp) ≡ lanes
   unfolding limitsTo
   limits-length zero = length-replicate {A = ℕ} lanes 0
-  limits-length (suc n) = length-set (limitsTo n pattern k stamp) n _ ∙ limits-length n
+  limits-length (suc n) = length-set (limitsTo n acting k stamp) n _ ∙ limits-length n
 
   -- beyond the slots there is none
-  pub limits-beyond : (n i : ℕ) → n ≤ i → i < lanes → getD (limitsTo n pattern k stamp) i 0 ≡ 0
+  pub limits-beyond : (n i : ℕ) → n ≤ i → i < lanes → getD (limitsTo n acting k stamp) i 0 ≡ 0
   unfolding limitsTo
   limits-beyond zero i l low = getD-replicate {A = ℕ} lanes i 0 0 low
   limits-beyond (suc n) i l low =
-      getD-set-other (limitsTo n pattern k stamp) n i _ 0 (λ p. let z : ⊥ = omega arith in z) ∙ limits-beyond n i (omega arith) low
+      getD-set-other (limitsTo n acting k stamp) n i _ 0 (λ p. let z : ⊥ = omega arith in z) ∙ limits-beyond n i (omega arith) low
 
   pub limits-at : (n i : ℕ) → i < n → n ≤ lanes
-      → getD (limitsTo n pattern k stamp) i 0 ≡ limitAt (getD pattern i noSlot) (ltb k i) stamp
+      → getD (limitsTo n acting k stamp) i 0 ≡ limitAt (getD acting i 0) (ltb k i) stamp
   unfolding limitsTo
   limits-at zero i l low = absurd (omega arith)
   limits-at (suc n) i l low = go (ℕ-discrete i n) (λ u. limits-at n i u (omega arith))
     where
-      go : Dec (i ≡ n) → (i < n → getD (limitsTo n pattern k stamp) i 0 ≡ limitAt (getD pattern i noSlot) (ltb k i) stamp)
-          → getD (limitsTo (suc n) pattern k stamp) i 0 ≡ limitAt (getD pattern i noSlot) (ltb k i) stamp
+      go : Dec (i ≡ n) → (i < n → getD (limitsTo n acting k stamp) i 0 ≡ limitAt (getD acting i 0) (ltb k i) stamp)
+          → getD (limitsTo (suc n) acting k stamp) i 0 ≡ limitAt (getD acting i 0) (ltb k i) stamp
       go (yes p) ih =
-          let u : n < length (limitsTo n pattern k stamp) = rw (limits-length n) (omega arith) in
-          rw p (getD-set-same (limitsTo n pattern k stamp) n _ 0 u)
-      go (no d) ih = getD-set-other (limitsTo n pattern k stamp) n i _ 0 d ∙ ih (omega arith)
+          let u : n < length (limitsTo n acting k stamp) = rw (limits-length n) (omega arith) in
+          rw p (getD-set-same (limitsTo n acting k stamp) n _ 0 u)
+      go (no d) ih = getD-set-other (limitsTo n acting k stamp) n i _ 0 d ∙ ih (omega arith)
 
 -- ---- an event is offered to one set
 

@@ -11,11 +11,11 @@ use native.Mathlib.Omega.{arith}
 use lib.Dec.{leb, ltb}
 use lib.ListN.{length, getD, take, replicate, length-replicate}
 use lib.Seq.{ext-getD, getD-take, length-take-le}
-use borrow.Author.Tests.{le-leb}
+use borrow.Author.Tests.{le-leb, leb-true}
 use Rattle.event.specs.declared.Event.{Event}
 use Rattle.event.specs.declared.Slot.{Slot}
 use Rattle.event.specs.Limits.{threads, slots}
-use Rattle.event.specs.Slots.{fits}
+use Rattle.event.specs.Slots.{fits, noEvent}
 use Rattle.event.proofs.Tests.{by-test}
 use Rattle.trace.proofs.Verdict.{Answers, match, no-match, best-answers}
 use Rattle.trace.proofs.Masks.{pick}
@@ -23,8 +23,8 @@ use Rattle.dependence.specs.Dependence.{dependent}
 use Rattle.dependence.specs.Order.{HasMatch, Named}
 use Rattle.clock.specs.declared.Stamp.{Stamp}
 use Rattle.table.specs.Sets.{lanes, held}
-use Rattle.table.specs.Table.{put, noSlot, slotOffered, offeredDown, offered, lastRow, foundIn, numbersIn}
-use Rattle.table.specs.Keeps.{noEvent, Greatest, rowIn, numbersOf, Keeping, kept, missing, Keeps, Numbers}
+use Rattle.table.specs.Table.{put, slotOffered, offeredDown, offered, lastRow, foundIn, numbersIn}
+use Rattle.table.specs.Keeps.{Greatest, rowIn, numbersOf, Keeping, kept, missing, Keeps, Numbers}
 use Rattle.table.proofs.RowLaws.{put-length, put-outside, put-inside}
 use Rattle.table.proofs.BitLaws.{number-all, pick-all, listed-length, listed-at}
 use Rattle.table.proofs.Start.{getD-zeros}
@@ -134,17 +134,16 @@ module _ (ss : List Slot) (log : List Event) (table : List ℕ) (h : Keeps ss lo
 
 -- ---- an event that fits no slot
 
-module _ (pattern : List Slot) (n : ℕ) (e : Event) (stamp : Stamp) (number : ℕ) where
-  down-unfit : (k : ℕ) (table : List ℕ) → ((j : ℕ) → j < k → fits (getD pattern j noSlot) e ≡ false)
-      → offeredDown k table pattern n e stamp number ≡ table
+module _ (acting : List ℕ) (fit : List Bool) (n t : ℕ) (stamp : Stamp) (number : ℕ) where
+  down-unfit : (k : ℕ) (table : List ℕ) → ((j : ℕ) → j < k → getD fit j false ≡ false)
+      → offeredDown k table acting fit n t stamp number ≡ table
   unfolding offeredDown slotOffered
   down-unfit zero table d = refl
   down-unfit (suc k) table d = rw (d k (omega arith)) (down-unfit k table (λ j l. d j (omega arith)))
 
-  pub unfit-leaves : (table : List ℕ) → ((j : ℕ) → j < n → fits (getD pattern j noSlot) e ≡ false)
-      → offered table pattern n e stamp number ≡ table
+  pub unfit-leaves : (table : List ℕ) → ((j : ℕ) → j < slots → getD fit j false ≡ false) → offered table acting fit n t stamp number ≡ table
   unfolding offered
   unfit-leaves table d =
-      by-test (ltb (e .thread) threads)
-      (λ p. by-test (leb n slots) (λ q. rw (p, q) (down-unfit n table d)) (λ q. rw (p, q)))
-      (λ p. rw p)
+      by-test (ltb t threads)
+      (λ q. by-test (leb n slots) (λ r. let l = leb-true n slots r in rw (q, r) (down-unfit n table (λ j u. d j (omega arith)))) (λ r. rw (q, r) refl))
+      (λ q. rw q refl)

@@ -7,11 +7,9 @@ use mathlib.Core.List.{List, [], _∷_, _++_}
 use mathlib.Core.Option.{Option, some, none}
 use lib.ListN.{length, getD, take, replicate}
 use Rattle.event.specs.declared.Event.{Event}
-use Rattle.event.specs.declared.Operation.the-variants.{Mark}
 use Rattle.event.specs.declared.Slot.{Slot}
-use Rattle.event.specs.declared.SlotOperation.the-variants.{Mark as MarkSlot}
 use Rattle.event.specs.Limits.{threads, slots, events}
-use Rattle.event.specs.Slots.{fits}
+use Rattle.event.specs.Slots.{fits, noSlot, noEvent}
 use Rattle.trace.specs.Before.{Numbered}
 use Rattle.trace.proofs.Greatest.{BestOf}
 use Rattle.trace.proofs.Masks.{pick}
@@ -21,10 +19,6 @@ use Rattle.dependence.specs.Order.{threadOf, HasMatch, Named}
 use Rattle.clock.specs.declared.Stamp.{Stamp}
 use Rattle.clock.specs.Holds.{StampOf}
 use Rattle.table.specs.Sets.{lanes, held, size, rowOf, absent}
-
--- what stands for the event of a number that the list has not
-abbrev pub noEvent : Event
-noEvent = record { thread = 0; operation = Mark 0 }
 
 -- the greatest of the good tuples of the slots, slot by slot, over the events of the log; `none` where there is none
 abbrev pub Greatest : List Event → List Slot → Option (List ℕ) → Type 0
@@ -70,13 +64,10 @@ pub record Keeps (ss : List Slot) (log : List Event) (table : List ℕ) : Type 0
   pub low : (i : ℕ) (a : Event) → Numbered log i a → a .thread < threads
   pub rows : (bs : List Bool) → length bs ≡ length ss → Keeping ss log bs (rowIn table (setNumber bs))
 
--- the slots as an offer takes them: the pattern, and then thread 0, mark 0
-abbrev pub padded : List Slot → List Slot
-padded ss = ss ++ replicate (slots - length ss) (record { thread = 0; operation = MarkSlot 0 })
-
--- an offer of the event that follows those of the log
-pub record Follows (ss : List Slot) (log : List Event) (pattern : List Slot) (n : ℕ) (e : Event) (stamp : Stamp) (number : ℕ) : Type 0 where
-  pub pattern-is : pattern ≡ padded ss
+-- an offer of the event that follows those of the log: the thread of each slot, and which slots the event fits
+pub record Follows (ss : List Slot) (log : List Event) (acting : List ℕ) (fit : List Bool) (n : ℕ) (e : Event) (stamp : Stamp) (number : ℕ) : Type 0 where
+  pub acting-is : (j : ℕ) → j < length ss → getD acting j 0 ≡ getD ss j noSlot .thread
+  pub fit-is : (j : ℕ) → j < length ss → getD fit j false ≡ fits (getD ss j noSlot) e
   pub size-is : n ≡ length ss
   pub number-is : number ≡ length log + 1
   pub number-fits : number ≤ events

@@ -6,12 +6,10 @@ use mathlib.Core.Bool.{Bool, false, _||_}
 use mathlib.Core.List.{List}
 use lib.Dec.{eqb}
 use lib.ListN.{length, getD}
-use Rattle.event.specs.declared.Event.{Event}
 use Rattle.event.specs.declared.Slot.{Slot}
 use Rattle.event.specs.Limits.{slots}
+use Rattle.event.specs.Slots.{noSlot}
 use Rattle.event.specs.Keys.{keyOf}
-use Rattle.clock.specs.declared.Stamp.{Stamp}
-use Rattle.table.specs.Table.{noSlot, offered}
 
 -- a key for each place of a pattern
 pub record KeysOf (pattern : List Slot) (keys : List ℕ) : Type 0 where
@@ -22,7 +20,3 @@ pub record KeysOf (pattern : List Slot) (keys : List ℕ) : Type 0 where
 unfoldable pub wantsTo : ℕ → List ℕ → ℕ → Bool
 wantsTo zero keys k = false
 wantsTo (suc n) keys k = wantsTo n keys k || eqb (getD keys n 0) k
-
--- offering the event changes no table
-abbrev pub Idle : List Slot → Event → Type 0
-Idle pattern e = (table : List ℕ) (n : ℕ) (stamp : Stamp) (number : ℕ) → offered table pattern n e stamp number ≡ table

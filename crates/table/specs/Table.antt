@@ -1,15 +1,12 @@
--- The table as a list of numbers: what an event makes of it, and what is found in it, for every list and every event.
+-- The table as a list of numbers: what an event makes of it, and what is found in it. Of a pattern it takes how many slots there are and the
+-- thread of each (`acting`), and of an event its thread and which slots it fits (`fit`).
 -- Assumes nothing.
 use Prim.Native.Nat.{ℕ, zero, suc, _+_, _-_, _/_, _^_}
 use mathlib.Core.Bool.{Bool, true, false, cond, _&&_, not}
 use mathlib.Core.List.{List, [], _∷_, _++_}
 use lib.Dec.{eqb, leb, ltb}
 use lib.ListN.{getD, set, replicate}
-use Rattle.event.specs.declared.Event.{Event}
-use Rattle.event.specs.declared.Slot.{Slot}
-use Rattle.event.specs.declared.SlotOperation.the-variants.{Read}
 use Rattle.event.specs.Limits.{threads, slots}
-use Rattle.event.specs.Slots.{fits}
 use Rattle.clock.specs.declared.Stamp.{Stamp}
 use Rattle.table.specs.declared.Row.{Row}
 use Rattle.table.specs.declared.Limits.{Limits}
@@ -37,20 +34,16 @@ roomIn r limits = roomTo lanes (r .at) (limits .at)
 
 -- ---- limits
 
--- what is read beyond a list's end
-abbrev pub noSlot : Slot
-noSlot = record { thread = 0; operation = Read 0 }
+-- the least place that an event of a slot of thread t may have, by the new event's stamp: any where the slot is not a later one
+abbrev pub limitAt : ℕ → Bool → Stamp → ℕ
+limitAt t later stamp = cond later (cond (ltb t threads) (getD (stamp .at) t 0) 0) 0
 
--- the least place that an event of the slot may have, by the new event's stamp: any where the slot is not a later one
-abbrev pub limitAt : Slot → Bool → Stamp → ℕ
-limitAt s later stamp = cond later (cond (ltb (s .thread) threads) (getD (stamp .at) (s .thread) 0) 0) 0
+unfoldable pub limitsTo : ℕ → List ℕ → ℕ → Stamp → List ℕ
+limitsTo zero acting k stamp = replicate lanes 0
+limitsTo (suc n) acting k stamp = set (limitsTo n acting k stamp) n (limitAt (getD acting n 0) (ltb k n) stamp)
 
-unfoldable pub limitsTo : ℕ → List Slot → ℕ → Stamp → List ℕ
-limitsTo zero pattern k stamp = replicate lanes 0
-limitsTo (suc n) pattern k stamp = set (limitsTo n pattern k stamp) n (limitAt (getD pattern n noSlot) (ltb k n) stamp)
-
-abbrev pub limitsAfter : List Slot → ℕ → Stamp → Limits
-limitsAfter pattern k stamp = record { at = limitsTo slots pattern k stamp }
+abbrev pub limitsAfter : List ℕ → ℕ → Stamp → Limits
+limitsAfter acting k stamp = record { at = limitsTo slots acting k stamp }
 
 -- ---- an event is offered
 
@@ -69,25 +62,25 @@ unfoldable pub sweptTo : ℕ → List ℕ → Limits → Entry → List ℕ
 sweptTo zero table limits entry = table
 sweptTo (suc n) table limits entry = setOffered (sweptTo n table limits entry) (spread (entry .slot) n) limits entry
 
--- at the entry's slot, to the first `count` sets without it
-unfoldable pub slotOffered : List ℕ → List Slot → ℕ → Event → Stamp → Entry → List ℕ
-slotOffered table pattern count e stamp entry =
-    cond (fits (getD pattern (entry .slot) noSlot) e) (sweptTo count table (limitsAfter pattern (entry .slot) stamp) entry) table
+-- at the entry's slot, where the event fits it, to the first `count` sets without it
+unfoldable pub slotOffered : List ℕ → List ℕ → List Bool → ℕ → Stamp → Entry → List ℕ
+slotOffered table acting fit count stamp entry =
+    cond (getD fit (entry .slot) false) (sweptTo count table (limitsAfter acting (entry .slot) stamp) entry) table
 
--- an event's place in its thread, how many come before it, by its stamp
-abbrev pub placeBy : Event → Stamp → ℕ
-placeBy e stamp = getD (stamp .at) (e .thread) 0 - 1
+-- an event's place in its thread t, how many come before it, by its stamp
+abbrev pub placeBy : ℕ → Stamp → ℕ
+placeBy t stamp = getD (stamp .at) t 0 - 1
 
 -- at the first k slots, the last of them first; half of the sets of n slots are without that slot
-unfoldable pub offeredDown : ℕ → List ℕ → List Slot → ℕ → Event → Stamp → ℕ → List ℕ
-offeredDown zero table pattern n e stamp number = table
-offeredDown (suc k) table pattern n e stamp number =
-    offeredDown k (slotOffered table pattern (2 ^ n / 2) e stamp (record { slot = k; place = placeBy e stamp; number = number })) pattern n e stamp number
+unfoldable pub offeredDown : ℕ → List ℕ → List ℕ → List Bool → ℕ → ℕ → Stamp → ℕ → List ℕ
+offeredDown zero table acting fit n t stamp number = table
+offeredDown (suc k) table acting fit n t stamp number =
+    offeredDown k (slotOffered table acting fit (2 ^ n / 2) stamp (record { slot = k; place = placeBy t stamp; number = number })) acting fit n t stamp number
 
--- at every slot of a pattern of n: nothing where the event's thread or n is outside its limit
-unfoldable pub offered : List ℕ → List Slot → ℕ → Event → Stamp → ℕ → List ℕ
-offered table pattern n e stamp number =
-    cond (ltb (e .thread) threads) (cond (leb n slots) (offeredDown n table pattern n e stamp number) table) table
+-- at every slot of a pattern of n: nothing where the event's thread t or n is outside its limit
+unfoldable pub offered : List ℕ → List ℕ → List Bool → ℕ → ℕ → Stamp → ℕ → List ℕ
+offered table acting fit n t stamp number =
+    cond (ltb t threads) (cond (leb n slots) (offeredDown n table acting fit n t stamp number) table) table
 
 -- ---- the table of no events, and what is found in a table
 

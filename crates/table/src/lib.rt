@@ -1,23 +1,22 @@
 // The table that keeps, for every set of a pattern's slots, the greatest partial match, as the events of a log arrive.
 use clock::Stamp;
-use event::Event;
 use event::Slot;
 use event::SlotOperation;
 ghost use mathlib.Core.Path.{_≡_};
 ghost use mathlib.Core.Logic.{_↔_};
 ghost use mathlib.Core.Bool.{true, false};
 ghost use mathlib.Core.List.{List, [], _∷_, _++_};
-ghost use Prim.Native.Nat.{_+_, _-_, _*_, _^_, _%_, _≤_, _<_};
-ghost use lib.ListN.{length};
+ghost use Prim.Native.Nat.{ℕ, _+_, _-_, _*_, _^_, _%_, _≤_, _<_};
+ghost use lib.ListN.{length, getD};
 ghost use Rattle.event.specs.declared.Event.{Event};
 ghost use Rattle.event.specs.declared.Slot.{Slot};
 ghost use Rattle.event.specs.Limits.{slots as slotLimit};
 ghost use Rattle.event.specs.Keys.{keyOf};
-ghost use Rattle.event.specs.Slots.{slotOf};
+ghost use Rattle.event.specs.Slots.{slotOf, fits, noSlot};
 ghost use Rattle.dependence.specs.Order.{HasMatch};
 ghost use Rattle.table.specs.Sets.{sets, width, size as tableSize};
 ghost use Rattle.table.specs.Table.{put, rowAt, roomIn, limitAt, limitsAfter, joined, setOffered, sweptTo, offered, freshTable, lastRow, foundIn, numbersIn};
-ghost use Rattle.table.specs.Keys.{KeysOf, wantsTo, Idle};
+ghost use Rattle.table.specs.Keys.{KeysOf, wantsTo};
 ghost use Rattle.table.specs.Keeps.{Keeps, Follows, Numbers};
 
 // A row has the places of the slots, then their event numbers, and last whether there is a row.
@@ -91,10 +90,10 @@ pub fn keys(slots: [Slot; event::SLOTS]) -> [u32; event::SLOTS]
     r
 }
 
-// Whether an event of this key may fit one of the slots that these keys are of. Offering another changes nothing.
+// Whether an event of this key may fit one of the slots that these keys are of.
 pub fn wants(keys: [u32; event::SLOTS], k: u32) -> bool
     ensures exact { λ r. ⌜ r ≡ wantsTo slotLimit keys k ⌝ }
-    ensures idle { λ r. ⌜ ((slots : List Slot) (e : Event) → KeysOf slots keys → k ≡ keyOf (slotOf e) → r ≡ false → Idle slots e) ⌝ }
+    ensures unfit { λ r. ⌜ ((slots : List Slot) (e : Event) → KeysOf slots keys → k ≡ keyOf (slotOf e) → r ≡ false → (j : ℕ) → j < slotLimit → fits (getD slots j noSlot) e ≡ false) ⌝ }
 {
     let mut any = false;
     for j in 0..event::SLOTS {
@@ -125,19 +124,21 @@ fn key(thread: u8, byte: u8, object: u16) -> u32
     byte as u32 + 256 * (thread as u32) + 65536 * (object as u32 % 256)
 }
 
-// Takes one event, which has this stamp and number. One of a thread outside the limit, or a pattern of too many slots, leaves the table as it was.
+// Takes one event of a thread, which has this stamp and number and fits the slots that `fit` says; `acting` is the thread of each slot.
+// A thread outside the limit, or a pattern of too many slots, leaves the table as it was.
 pub fn offer(
     table: &mut [u16; TABLE],
-    slots: [Slot; event::SLOTS],
+    acting: [u8; event::SLOTS],
+    fit: [bool; event::SLOTS],
     size: usize,
-    e: Event,
+    thread: u8,
     stamp: Stamp,
     number: u16,
 )
-    ensures exact { λ _. ⌜ now (table .exit) ≡ offered (now (table .entry)) slots size e stamp number ⌝ }
-    ensures history { λ _. ⌜ ((ss : List Slot) (log : List Event) → Keeps ss log (now (table .entry)) → Follows ss log slots size e stamp number → Keeps ss (log ++ (e ∷ [])) (now (table .exit))) ⌝ }
+    ensures exact { λ _. ⌜ now (table .exit) ≡ offered (now (table .entry)) acting fit size thread stamp number ⌝ }
+    ensures history { λ _. ⌜ ((ss : List Slot) (log : List Event) (e : Event) → thread ≡ e .thread → Keeps ss log (now (table .entry)) → Follows ss log acting fit size e stamp number → Keeps ss (log ++ (e ∷ [])) (now (table .exit))) ⌝ }
 {
-    let t = e.thread as usize;
+    let t = thread as usize;
     if t >= clock::THREADS {
         return;
     }
@@ -149,9 +150,8 @@ pub fn offer(
     let mut k = size;
     while k > 0 {
         k -= 1;
-        let s = slots[k];
-        if event::fit(s, e) {
-            let limits = limits_after(slots, k, stamp);
+        if fit[k] {
+            let limits = limits_after(acting, k, stamp);
             let entry = Entry {
                 slot: k,
                 place,
@@ -183,25 +183,24 @@ fn power(k: usize) -> usize
 }
 
 // The events of later slots may not come before the new one or be it: their places are at least its count of their threads.
-fn limits_after(slots: [Slot; event::SLOTS], k: usize, stamp: Stamp) -> Limits
-    ensures { λ r. ⌜ r ≡ limitsAfter slots k stamp ⌝ }
+fn limits_after(acting: [u8; event::SLOTS], k: usize, stamp: Stamp) -> Limits
+    ensures { λ r. ⌜ r ≡ limitsAfter acting k stamp ⌝ }
 {
     let mut r = Limits { at: [0; LANES] };
     for j in 0..event::SLOTS {
-        let s = slots[j];
-        let x = limit(s, j > k, stamp);
+        let x = limit(acting[j], j > k, stamp);
         r.at[j] = x;
     }
     r
 }
 
-fn limit(s: Slot, later: bool, stamp: Stamp) -> u16
-    ensures { λ r. ⌜ r ≡ limitAt s later stamp ⌝ }
+fn limit(thread: u8, later: bool, stamp: Stamp) -> u16
+    ensures { λ r. ⌜ r ≡ limitAt thread later stamp ⌝ }
 {
     if !later {
         return 0;
     }
-    let t = s.thread as usize;
+    let t = thread as usize;
     if t >= clock::THREADS {
         return 0;
     }

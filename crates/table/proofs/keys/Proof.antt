@@ -3,7 +3,7 @@ use lib.ListN.{length-set}
 use lib.Seq.{getD-set-same, getD-set-other}
 use mathlib.Core.Path.{_∙_}
 use Rattle.event.specs.Keys.{keyOf}
-use Rattle.table.specs.Table.{noSlot}
+use Rattle.event.specs.Slots.{noSlot}
 use borrow.Author.Needs.{needs}
 use lib.ListN.{length, getD}
 use mathlib.Core.Path.{_≡_, refl}

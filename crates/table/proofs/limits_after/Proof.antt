@@ -1,29 +1,26 @@
+use Rattle.event.specs.Limits.{slots as slotLimit}
+use Rattle.table.specs.Table.{limitsTo}
 use Prim.Native.Nat.{ℕ, _-_, _≤_}
 use native.Mathlib.Omega.{arith}
 use native.Mathlib.Numerals.{add-one}
 use mathlib.Core.Path.{_≡_, refl, ap}
 use mathlib.Core.List.{List}
-use Rattle.event.specs.Limits.{slots as slotLimit}
-use Rattle.table.specs.Table.{limitsTo}
 use borrow.Author.Needs.{needs}
 use Rattle.table.proofs.limits_after.Statement.{statement}
 use Rattle.table.proofs.limits_after.Tie as tie
 
 abbrev Inv-loop : tie.InvT-loop
-Inv-loop k stamp slots r₀ j₀ r j = (j ≤ slotLimit) × (r .at ≡ limitsTo j slots k stamp)
+Inv-loop k stamp acting r₀ j₀ r j = (j ≤ slotLimit) × (r .at ≡ limitsTo j acting k stamp)
 
 abbrev μ-loop : tie.MeasureT-loop
-μ-loop k stamp slots r₀ j₀ r j = slotLimit - j
+μ-loop k stamp acting r₀ j₀ r j = slotLimit - j
 
 loop-holds : tie.Need-loop-holds Inv-loop μ-loop
 unfolding limitsTo
 loop-holds c = (search needs, refl)
 
-mul-s : tie.Need-mul-s Inv-loop μ-loop
-mul-s c = search needs
-
-array-copy-out-s : tie.Need-array-copy-out-s Inv-loop μ-loop
-array-copy-out-s c = search needs
+array-read-limit : tie.Need-array-read-limit Inv-loop μ-loop
+array-read-limit c = search needs
 
 limit-requires : tie.Need-limit-requires Inv-loop μ-loop
 limit-requires c κs = search needs
@@ -42,7 +39,7 @@ loop-less c = search needs
 
 loop-again : tie.Need-loop-again Inv-loop μ-loop
 unfolding limitsTo
-loop-again c = (search needs, rw (add-one, c .limit .ensures, c .before .before .before .loop .inv .1))
+loop-again c = (search needs, rw (add-one, c .limit .ensures, c .before .before .loop .inv .1))
 
 returns : tie.Need-returns Inv-loop μ-loop
 returns c = let k : c .before .loop .j ≡ slotLimit = omega arith in ap (λ (xs : List ℕ). record { at = xs }) (rw k at (c .before .loop .inv .1))
@@ -54,8 +51,7 @@ limits-after-spec =
     Inv-loop
     μ-loop
     loop-holds
-    mul-s
-    array-copy-out-s
+    array-read-limit
     limit-requires
     mul-r
     element-write-r

@@ -1,4 +1,4 @@
-use Rattle.table.proofs.KeyLaws.{unwanted-idle}
+use Rattle.table.proofs.KeyLaws.{unwanted-unfit}
 use Rattle.table.specs.Keys.{wantsTo}
 use Rattle.event.specs.Limits.{slots}
 use borrow.Author.Needs.{needs}
@@ -40,7 +40,7 @@ returns c =
     let a = c .before .before .args in
     let n : c .before .loop .j ≡ 5 = let u = c .before .loop .inv .0 in let v = c .loop-test .left in omega arith in
     let w : c .before .loop .any ≡ wantsTo slots (a .t1) (a .k) = c .before .loop .inv .1 ∙ ap (λ (m : ℕ). wantsTo m (a .t1) (a .k)) n in
-    (w, λ pattern e h q y. unwanted-idle pattern (a .t1) e h (rw q at (sym w ∙ y)))
+    (w, λ pattern e h q y. unwanted-unfit pattern (a .t1) e h (rw q at (sym w ∙ y)))
 
 pub wants-spec : {M : Type 1} → statement M
 wants-spec =
