@@ -1,9 +1,9 @@
 -- A list filled entry by entry from another: what a loop over a pattern's slots leaves.
-use Prim.Native.Nat.{ℕ, _+_, _<_}
+use Prim.Native.Nat.{ℕ, zero, suc, _+_, _<_}
 use native.Mathlib.Decide.{ℕ-discrete}
 use native.Mathlib.Omega.{arith}
-use mathlib.Core.Path.{_≡_, sym, _∙_}
-use mathlib.Core.List.{List, map}
+use mathlib.Core.Path.{_≡_, refl, sym, _∙_}
+use mathlib.Core.List.{List, [], _∷_, map}
 use lib.ListN.{length, getD, set, length-set, length-map, List·getD-map}
 use lib.Seq.{getD-set-same, getD-set-other, ext-getD}
 
@@ -28,3 +28,9 @@ module _ {A B : Type 0} (f : A → B) (xs : List A) (d : A) where
   all-filled j ys e h =
       ext-getD (f d) ys (map f xs) (h .as-long ∙ sym (length-map xs f))
       (λ i u. h .below i (let n = h .as-long in omega arith) ∙ sym (List·getD-map f xs i d))
+
+-- an entry of a list made from another
+pub map-at : {A B : Type 0} (f : A → B) (xs : List A) (d : A) (z : B) (j : ℕ) → j < length xs → getD (map f xs) j z ≡ f (getD xs j d)
+map-at f [] d z j l = absurd (omega arith)
+map-at f (x ∷ xs) d z zero l = refl
+map-at f (x ∷ xs) d z (suc j) l = map-at f xs d z j (omega arith)

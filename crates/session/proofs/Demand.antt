@@ -1,8 +1,9 @@
--- The theorem of demand 3: every list of events handed to a session, and every order reached from the events taken.
+-- The theorem of demand 3: every list of events handed to a session from its opening, every order reached from the events taken, and every run.
 use Prim.Native.Nat.{ℕ}
 use native.Mathlib.Omega.{arith}
 use mathlib.Core.Path.{_≡_, refl, sym, ap, ap₂, _∙_}
 use mathlib.Core.Logic.{_↔_}
+use mathlib.Core.Bool.{Bool, true}
 use mathlib.Core.List.{List, [], _∷_, reverse, reverse-reverse}
 use lib.ListN.{length, replicate}
 use borrow.Author.Tests.{eq-eqb}
@@ -10,16 +11,20 @@ use Rattle.event.specs.declared.Event.{Event}
 use Rattle.event.specs.declared.Slot.{Slot}
 use Rattle.rules.specs.Accepted.{Accepted, AcceptedAfter, one-more, refusalAfter, takenAfter, takenFrom}
 use Rattle.rules.proofs.AcceptedLists.{all-taken}
-use Rattle.log.specs.Whole.{Heights, accepted, refused, logBytes, readPattern}
-use Rattle.log.proofs.LogRoundTrip.{log-read}
+use Rattle.command.specs.Bytes.{Bytes}
+use Rattle.log.specs.Whole.{Heights, Whole, accepted, refused as refusedAt, logBytes, readLog, readPattern}
+use Rattle.log.proofs.LogRoundTrip.{log-read, log-iff}
+use Rattle.trace.proofs.Lists.{same-test}
+use Rattle.trace.specs.Swaps.{Swap, here, later, stay, swap}
+use Rattle.dependence.specs.Dependence.{dependent}
 use Rattle.dependence.specs.Order.{Reaches, HasMatch}
 use Rattle.dependence.proofs.Reached.{order-reached}
 use Rattle.session.specs.declared.Session.{Session}
-use Rattle.session.specs.declared.Verdict.{Verdict}
-use Rattle.session.specs.declared.Judged.{Judged}
-use Rattle.session.specs.Model.{handed, handedAll, verdictOf, judgedBy}
-use Rattle.session.specs.Meaning.{takenBy, Describes, VerdictOf, match, none, RunOn, log-refused, judged, RunOf, pattern-refused, over-log}
-use Rattle.session.specs.History.{answers, refusals, takenOf, isMatch, HistoryOf, SameAnswer}
+use Rattle.session.specs.declared.Opened.{Opened}
+use Rattle.session.specs.Answers.{refusal, Refusal, Refused, nothing, Ruling, Given}
+use Rattle.session.specs.Model.{slotsUsed, handed, handedAll}
+use Rattle.session.specs.Meaning.{takenBy, Describes, VerdictOf, OpenedOn, RunOn, log-refused, judged, RunOf, pattern-refused, over-log}
+use Rattle.session.specs.History.{answers, refusals, takenOf, saidAfter, SameAnswer, EveryHistory, SameRun, EveryRun}
 use Rattle.session.proofs.Described.{handed-described, verdict-described}
 
 -- ---- every list of events
@@ -34,77 +39,114 @@ after-all ss es s h (e ∷ events) =
     let back = reverse-reverse (takenAfter (reverse es) e) in
     (ap₂ _∷_ (one .0) (rw back at (rest .0)), rw back at (rest .1))
 
-pub every-history : (ss : List Slot) (s : Session) → Describes ss [] s → (events : List Event) → HistoryOf ss s events
-every-history ss s h events =
-    let all = after-all ss [] s h events in
-    record {
-      numbers = all .0;
-      taken = all .1 .accepted;
-      session = all .1;
-      verdict = verdict-described ss (takenOf events) (handedAll s events) (all .1);
-    }
-
 -- ---- every order reached
 
 -- two verdicts say the same where the lists have matches alike
-same-verdict : (ss : List Slot) (es fs : List Event) → HasMatch ss es ↔ HasMatch ss fs → (v w : Verdict) → VerdictOf ss es v → VerdictOf ss fs w
-    → isMatch (v .found) ≡ isMatch (w .found)
-same-verdict ss es fs h v w (match m c n z) (match m' c' n' z') = refl
-same-verdict ss es fs h v w (match m c n z) (none d) = absurd (d (h .0 m))
-same-verdict ss es fs h v w (none d) (match m c n z) = absurd (d (h .1 m))
-same-verdict ss es fs h v w (none d) (none d') = refl
+same-verdict : (ss : List Slot) (es fs : List Event) → HasMatch ss es ↔ HasMatch ss fs → (v w : Ruling) → VerdictOf ss es v → VerdictOf ss fs w
+    → v .matches ≡ w .matches
+same-verdict ss es fs h v w a b =
+    same-test (v .matches) (w .matches)
+    (λ t. b .matches .1 (h .0 (a .matches .0 t)))
+    (λ t. a .matches .1 (h .1 (b .matches .0 t)))
 
-no-refusal : {past : List Event} (es : List Event) → AcceptedAfter past es → refusals past es ≡ replicate (length es) 0
+no-refusal : {past : List Event} (es : List Event) → AcceptedAfter past es → refusals past es ≡ replicate (length es) (refusal 0 0)
 unfolding refusals takenAfter
 no-refusal [] a = refl
-no-refusal {past} (e ∷ es) (one-more z a) = rw (eq-eqb (refusalAfter past e) 0 z, z) (ap (λ (ns : List ℕ). 0 ∷ ns) (no-refusal es a))
+no-refusal {past} (e ∷ es) (one-more z a) =
+    rw (eq-eqb (refusalAfter past e) 0 z, z) (ap (λ (ns : List Refusal). refusal 0 0 ∷ ns) (no-refusal es a))
 
 -- a reading is accepted or refused, not both
-apart : {A B : Type 0} (xs : List B) (k o : ℕ) → accepted xs ≡ refused k o → A
+apart : {A B : Type 0} (xs : List B) (k o : ℕ) → accepted xs ≡ refusedAt k o → A
 apart xs k o h = absurd (let z : _≡_ {A = ℕ} 0 1 = cc in let f : ⊥ = omega arith in f)
 
--- a run over the log of an accepted list gives a verdict of that list
-run-over : (ss : List Slot) (es : List Event) → Accepted es → Heights es → (r : Judged) → RunOn ss (logBytes es) r
-    → (v : Verdict) × (r ≡ judgedBy v) × VerdictOf ss es v
-run-over ss es a h r (log-refused {k} {o} q) = apart es k o (sym (log-read es a h) ∙ q)
-run-over ss es a h r (judged {es = fs} v q w) =
-    let p : accepted es ≡ accepted fs = sym (log-read es a h) ∙ q in
-    let same : es ≡ fs = cc in
-    (v, refl, rw same w)
+same-list : {B : Type 0} {xs ys : List B} → accepted xs ≡ accepted ys → xs ≡ ys
+same-list h = cc
 
-pub every-order : (ss : List Slot) (s : Session) → Describes ss [] s → (events order : List Event) → Reaches (takenOf events) order → SameAnswer ss s events order
-every-order ss s h events order reached =
+-- a run on a pattern that is read as ss, over a log that is read as es, gives a verdict of that list
+run-over : (ss : List Slot) (es : List Event) (pattern bytes : List ℕ) → readPattern pattern ≡ accepted ss → readLog bytes ≡ accepted es → (g : Given)
+    → RunOf pattern bytes g → (g .refused ≡ nothing) × VerdictOf ss es (g .ruling)
+run-over ss es pattern bytes p q g (pattern-refused {k} {o} a) = apart ss k o (sym p ∙ a)
+run-over ss es pattern bytes p q g (over-log {ss = found} a on) = go on
+  where
+    go : {g : Given} → RunOn found bytes g → (g .refused ≡ nothing) × VerdictOf ss es (g .ruling)
+    go (log-refused {k} {o} b) = apart es k o (sym q ∙ b)
+    go (judged b v) = (refl, rw (same-list (sym p ∙ a), same-list (sym q ∙ b)) v)
+
+-- what is so of a described session with no event taken
+module _ (ss : List Slot) (s : Session) (h : Describes ss [] s) (events : List Event) where
+  verdict-now : (fs : List Event) → VerdictOf ss (takenOf fs) (saidAfter s fs)
+  verdict-now fs = verdict-described ss (takenOf fs) (handedAll s fs) (after-all ss [] s h fs .1)
+
+  every-order : (order : List Event) → Reaches (takenOf events) order → SameAnswer ss s events order
+  every-order order reached =
+      record {
+        accepted-too = ordered .0;
+        each-taken = after-all ss [] s h order .0 ∙ no-refusal order (ordered .0);
+        all-taken = taken-all;
+        same = same-verdict ss order (takenOf events) back _ _ (rw taken-all at (verdict-now order)) (verdict-now events);
+        run-same = λ heights pattern q g r.
+            let v = run-over ss order pattern (logBytes order) q (log-read order (ordered .0) heights) g r in
+            (v .0, v .1, same-verdict ss order (takenOf events) back _ _ (v .1) (verdict-now events));
+      }
+    where
+      ordered : Accepted order × (HasMatch ss (takenOf events) ↔ HasMatch ss order)
+      ordered = order-reached ss (after-all ss [] s h events .1 .accepted) reached
+
+      back : HasMatch ss order ↔ HasMatch ss (takenOf events)
+      back = (ordered .1 .1, ordered .1 .0)
+
+      taken-all : takenOf order ≡ order
+      taken-all = ap reverse (all-taken order (ordered .0)) ∙ reverse-reverse order
+
+-- Demand 3 for sessions: for every pattern's bytes and what opening gave for them, every list of events, and every order reached from those taken
+pub every-history : (bytes : List ℕ) (opened : Opened) → OpenedOn bytes opened → (events : List Event) → EveryHistory bytes opened events
+every-history bytes opened o events =
     record {
-      accepted-too = ordered .0;
-      each-taken = fresh .numbers ∙ no-refusal order (ordered .0);
-      all-taken = taken-all;
-      same = same-verdict ss order (takenOf events) back _ _ by-order (past .verdict);
-      run-same = over;
+      each-answer = all .0;
+      taken = all .1 .accepted;
+      verdict = verdict-now ss s (o .described) events events;
+      orders = every-order ss s (o .described) events;
     }
   where
-    past : HistoryOf ss s events
-    past = every-history ss s h events
+    ss : List Slot
+    ss = slotsUsed (readPattern bytes)
 
-    fresh : HistoryOf ss s order
-    fresh = every-history ss s h order
+    s : Session
+    s = opened .session
 
-    ordered : Accepted order × (HasMatch ss (takenOf events) ↔ HasMatch ss order)
-    ordered = order-reached ss (past .taken) reached
+    all : (answers s events ≡ refusals [] events) × Describes ss (takenOf events) (handedAll s events)
+    all = after-all ss [] s (o .described) events
 
-    back : HasMatch ss order ↔ HasMatch ss (takenOf events)
-    back = (ordered .1 .1, ordered .1 .0)
+-- ---- every run
 
-    taken-all : takenOf order ≡ order
-    taken-all = ap reverse (all-taken order (ordered .0)) ∙ reverse-reverse order
+swapped-heights : {xs ys : List Event} → Swap dependent xs ys → Heights xs → Heights ys
+unfolding Heights
+swapped-heights (here i) h = (h .1 .0, h .0, h .1 .1)
+swapped-heights (later s) h = (h .0, swapped-heights s (h .1))
 
-    by-order : VerdictOf ss order (verdictOf (handedAll s order))
-    by-order = rw taken-all at (fresh .verdict)
+reached-heights : {xs ys : List Event} → Reaches xs ys → Heights xs → Heights ys
+reached-heights stay h = h
+reached-heights (swap r s) h = swapped-heights s (reached-heights r h)
 
-    over : Heights order → (pattern : List ℕ) → readPattern pattern ≡ accepted ss → (r : Judged) → RunOf pattern (logBytes order) r
-        → (v : Verdict) × (r ≡ judgedBy v) × VerdictOf ss order v × (isMatch (v .found) ≡ isMatch (verdictOf (handedAll s events) .found))
-    over heights pattern q r (pattern-refused {k} {o} p) = apart ss k o (sym q ∙ p)
-    over heights pattern q r (over-log {ss = found-slots} p on) =
-        let e : accepted ss ≡ accepted found-slots = sym q ∙ p in
-        let same : ss ≡ found-slots = cc in
-        let found = run-over ss order (ordered .0) heights r (rw same on) in
-        (found .0, found .1, found .2, same-verdict ss order (takenOf events) back _ _ (found .2) (past .verdict))
+-- Demand 3 for runs: where a run refuses nothing, a run over the log of every order reached says the same, match or none
+pub every-run : (pattern log : List ℕ) → Bytes log → (g : Given) → RunOf pattern log g → g .refused ≡ nothing → EveryRun pattern log g
+every-run pattern log b g (pattern-refused a) n = absurd (let z : _≡_ {A = Refused} Refused.pattern nothing = n in let y : _≡_ {A = ℕ} 0 1 = cc in let f : ⊥ = omega arith in f)
+every-run pattern log b g (over-log {ss = ss} a on) n = go on n
+  where
+    go : {g : Given} → RunOn ss log g → g .refused ≡ nothing → EveryRun pattern log g
+    go (log-refused r) m = absurd (let z : _≡_ {A = Refused} Refused.log nothing = m in let y : _≡_ {A = ℕ} 0 1 = cc in let f : ⊥ = omega arith in f)
+    go (judged {es = es} {r = said} r v) m = record { events = es; reads = r; orders = λ order reached. same-run order reached }
+      where
+        good : Accepted es × Heights es × (log ≡ logBytes es)
+        good = log-iff log b es .0 r
+
+        same-run : (order : List Event) → Reaches es order → SameRun pattern (record { refused = nothing; refusal = refusal 0 0; ruling = said }) order
+        same-run order reached =
+            let ordered = order-reached ss (good .0) reached in
+            let reads-back = log-read order (ordered .0) (reached-heights reached (good .1)) in
+            record {
+              reads-too = reads-back;
+              same = λ h r.
+                  let w = run-over ss order pattern (logBytes order) a reads-back h r in
+                  (w .0, same-verdict ss order es (ordered .1 .1, ordered .1 .0) _ _ (w .1) v);
+            }

@@ -1,17 +1,18 @@
 -- A session goes on being described by its pattern and the events taken, and its verdict is theirs.
-use Prim.Native.Nat.{ℕ, zero, suc, _+_, _<_}
+use Prim.Native.Nat.{ℕ, zero, suc, _+_, _-_, _<_}
 use native.Mathlib.Omega.{arith}
 use native.Mathlib.Numerals.{add-one}
 use mathlib.Core.Path.{_≡_, refl, sym, ap, subst, _∙_}
-use mathlib.Core.Bool.{cond, false, false≢true}
+use mathlib.Core.Bool.{Bool, cond, false, false≢true}
 use mathlib.Core.List.{List, [], _∷_, _++_, reverse, append-assoc, append-nil, reverse-cons, reverse-reverse, reverse-append}
 use lib.Dec.{eqb}
-use lib.ListN.{length, length-append, length-reverse}
+use lib.ListN.{length, getD, replicate, length-append, length-reverse, List·getD-append}
 use borrow.Author.Tests.{eqb-true, eq-eqb, ne-eqb}
 use Rattle.event.specs.declared.Event.{Event}
 use Rattle.event.specs.declared.Slot.{Slot}
-use Rattle.event.specs.Limits.{events}
-use Rattle.event.specs.Slots.{slotOf, fits}
+use Rattle.event.specs.Limits.{slots, events}
+use Rattle.event.specs.Slots.{slotOf, fits, noSlot, fitting, threadsOf}
+use Rattle.event.proofs.Filled.{map-at}
 use Rattle.event.proofs.Tests.{by-test}
 use Rattle.event.proofs.InRange.{from-range}
 use Rattle.rules.specs.Accepted.{refusalAfter, takenAfter, Accepted, whole}
@@ -27,6 +28,7 @@ use Rattle.trace.proofs.Matches.{empty-match, match-append, match-whole}
 use Rattle.trace.proofs.Counts.{count-stays, count-starts, count-match}
 use Rattle.trace.proofs.Numbers.{named-append}
 use Rattle.dependence.specs.Dependence.{dependent}
+use Rattle.trace.specs.Match.{without}
 use Rattle.dependence.specs.Order.{HasMatch}
 use Rattle.clock.specs.Clocks.{stampBy, clocksAfter}
 use Rattle.clock.specs.Holds as clock
@@ -37,8 +39,9 @@ use Rattle.table.proofs.History.{offer-kept}
 use Rattle.table.proofs.Start as tableStart
 use Rattle.table.proofs.Verdict.{found-match, found-numbers}
 use Rattle.session.specs.declared.Session.{Session}
-use Rattle.session.specs.Model.{slotsUsed, orLone, freshOn, tableAfter, advanced, handed, foundAt, verdictOf}
-use Rattle.session.specs.Meaning.{numberOf, takenBy, Searched, searching, matched, Describes, VerdictOf, match, none}
+use Rattle.session.specs.Model.{slotsUsed, orLone, freshOn, keptOf, tableAfter, keptAdvanced, keptAfter, advanced, handed, foundAt, verdictOf}
+use Rattle.session.specs.Answers.{refusal, answerIs, foundIs, verdictIs}
+use Rattle.session.specs.Meaning.{takenBy, Searched, searching, matched, Describes, VerdictOf}
 
 no-match-yet : (ss : List Slot) → 0 < length ss → ¬ HasMatch ss []
 no-match-yet [] l h = omega arith
@@ -87,11 +90,30 @@ module _ (ss : List Slot) (es : List Event) (s : Session) (h : Describes ss es s
   arrived : clock.Holds es (s .clocks) → clock.Arrived es e (stampBy (s .clocks) e) (clocksAfter (s .clocks) e)
   arrived c = clockHistory.arrived (s .clocks) e _ _ refl refl .1 .1 es c room (from-range (slotOf e) (clear .range))
 
-  kept-after : clock.Holds es (s .clocks) → Keeps ss es (s .table) → Keeps ss longer (tableAfter s e)
+  abbrev acting : List ℕ
+  acting = threadsOf (s .pattern .slots)
+
+  abbrev fit : List Bool
+  fit = fitting (s .pattern .slots) e
+
+  abbrev offered-to : List ℕ
+  offered-to = tableAfter acting fit (s .pattern .size) (keptOf s) e
+
+  slot-at : (j : ℕ) → j < length ss → getD (s .pattern .slots) j noSlot ≡ getD ss j noSlot
+  slot-at j l = rw (ap (λ p. p .slots) (h .pattern)) (List·getD-append ss _ noSlot j l)
+
+  slot-there : (j : ℕ) → j < length ss → j < length (s .pattern .slots)
+  slot-there j l =
+      let a : length (s .pattern .slots) ≡ length ss + _ = ap length (ap (λ p. p .slots) (h .pattern)) ∙ length-append ss (replicate (slots - length ss) blank) in
+      omega arith
+
+  kept-after : clock.Holds es (s .clocks) → Keeps ss es (s .table) → Keeps ss longer offered-to
+  unfolding threadsOf fitting
   kept-after c k =
-      offer-kept ss es (s .pattern .slots) (s .pattern .size) e (stampBy (s .clocks) e) (s .taken + 1) (s .table) k
+      offer-kept ss es acting fit (s .pattern .size) e (stampBy (s .clocks) e) (s .taken + 1) (s .table) k
       (record {
-        pattern-is = ap (λ p. p .slots) (h .pattern);
+        acting-is = λ j l. map-at (λ x. x .thread) (s .pattern .slots) noSlot 0 j (slot-there j l) ∙ ap (λ x. x .thread) (slot-at j l);
+        fit-is = λ j l. map-at (λ x. fits x e) (s .pattern .slots) noSlot false j (slot-there j l) ∙ ap (λ x. fits x e) (slot-at j l);
         size-is = ap (λ p. p .size) (h .pattern);
         number-is = ap (λ (n : ℕ). n + 1) (h .taken);
         number-fits = let n : s .taken ≡ length es = h .taken in let r : length es < events = room in omega arith;
@@ -101,18 +123,18 @@ module _ (ss : List Slot) (es : List Event) (s : Session) (h : Describes ss es s
 
   -- a match is found with this event, or none yet
   found-or-not : clock.Holds es (s .clocks) → Keeps ss es (s .table) → ¬ HasMatch ss es
-      → Searched ss longer (clocksAfter (s .clocks) e) (tableAfter s e) (cond (foundIn (tableAfter s e) (s .pattern .size)) (s .taken + 1) 0)
+      → Searched ss longer (clocksAfter (s .clocks) e) (offered-to) (cond (foundIn (offered-to) (s .pattern .size)) (s .taken + 1) 0)
   found-or-not c k d =
-      by-test (foundIn (tableAfter s e) (s .pattern .size))
+      by-test (foundIn (offered-to) (s .pattern .size))
       (λ q.
-      let m = found-match ss longer (tableAfter s e) (kept-after c k) .0 (by-size ∙ q) in
+      let m = found-match ss longer (offered-to) (kept-after c k) .0 (by-size ∙ q) in
       rw q
-      (subst (λ (n : ℕ). Searched ss longer (clocksAfter (s .clocks) e) (tableAfter s e) n) (sym counted)
+      (subst (λ (n : ℕ). Searched ss longer (clocksAfter (s .clocks) e) (offered-to) n) (sym counted)
       (matched longer [] (sym (append-nil longer)) long (count-starts dependent fits ss es e d m) (kept-after c k))))
-      (λ q. rw q (searching (arrived c .holds) (kept-after c k) (λ m. false≢true (sym (by-size ∙ q) ∙ found-match ss longer (tableAfter s e) (kept-after c k) .1 m))))
+      (λ q. rw q (searching (arrived c .holds) (kept-after c k) (λ m. false≢true (sym (by-size ∙ q) ∙ found-match ss longer (offered-to) (kept-after c k) .1 m))))
     where
-      by-size : foundIn (tableAfter s e) (length ss) ≡ foundIn (tableAfter s e) (s .pattern .size)
-      by-size = ap (foundIn (tableAfter s e)) (sym (ap (λ p. p .size) (h .pattern)))
+      by-size : foundIn (offered-to) (length ss) ≡ foundIn (offered-to) (s .pattern .size)
+      by-size = ap (foundIn (offered-to)) (sym (ap (λ p. p .size) (h .pattern)))
 
       counted : s .taken + 1 ≡ suc (length es)
       counted = let n : s .taken ≡ length es = h .taken in omega arith
@@ -121,7 +143,7 @@ module _ (ss : List Slot) (es : List Event) (s : Session) (h : Describes ss es s
       long = length-append es (e ∷ []) ∙ add-one (length es)
 
   searched-after : Searched ss longer (advanced s e .clocks) (advanced s e .table) (advanced s e .count)
-  unfolding advanced
+  unfolding advanced keptAdvanced
   searched-after = go (s .count) refl (h .search)
     where
       go : (c : ℕ) → s .count ≡ c → Searched ss es (s .clocks) (s .table) c
@@ -132,7 +154,7 @@ module _ (ss : List Slot) (es : List Event) (s : Session) (h : Describes ss es s
           (matched lead (later ++ (e ∷ [])) (ap (λ (x : List Event). x ++ (e ∷ [])) p ∙ append-assoc lead later (e ∷ [])) l c k)
 
   pub advanced-described : Describes ss longer (advanced s e)
-  unfolding advanced
+  unfolding advanced keptAdvanced
   advanced-described =
       record {
         good = h .good;
@@ -144,7 +166,7 @@ module _ (ss : List Slot) (es : List Event) (s : Session) (h : Describes ss es s
       }
     where
       same-pattern : advanced s e .pattern ≡ patternOf ss
-      same-pattern = by-test (eqb (s .count) 0) (λ q. rw q (h .pattern)) (λ q. rw q (h .pattern))
+      same-pattern = h .pattern
 
       one-taken : advanced s e .taken ≡ length longer
       one-taken =
@@ -157,8 +179,8 @@ module _ (ss : List Slot) (es : List Event) (s : Session) (h : Describes ss es s
 -- ---- any event is handed over
 
 pub handed-described : (ss : List Slot) (es : List Event) (s : Session) → Describes ss es s → (e : Event)
-    → (numberOf (handed s e .answer) ≡ refusalAfter (reverse es) e) × Describes ss (takenBy es e) (handed s e .session)
-unfolding handed takenAfter
+    → (answerIs (handed s e .answer) ≡ refusal (refusalAfter (reverse es) e) 0) × Describes ss (takenBy es e) (handed s e .session)
+unfolding handed advanced keptAfter takenAfter
 handed-described ss es s h e =
     let n : s .taken ≡ length (reverse es) = h .taken ∙ sym (length-reverse es) in
     let r : rules.refusalBy (s .state) (s .taken) e ≡ refusalAfter (reverse es) e =
@@ -167,29 +189,41 @@ handed-described ss es s h e =
     (by-test (eqb (refusalAfter (reverse es) e) 0)
     (λ q.
     rw (q, reverse-cons e (reverse es), reverse-reverse es)
-    (sym (eqb-true (refusalAfter (reverse es) e) 0 q), advanced-described ss es s h e (eqb-true (refusalAfter (reverse es) e) 0 q)))
+    (ap (λ (k : ℕ). refusal k 0) (sym (eqb-true (refusalAfter (reverse es) e) 0 q)), advanced-described ss es s h e (eqb-true (refusalAfter (reverse es) e) 0 q)))
     (λ q. rw (q, reverse-reverse es) (refl, h)))
 
 -- ---- the verdict
 
-pub verdict-described : (ss : List Slot) (es : List Event) (s : Session) → Describes ss es s → VerdictOf ss es (verdictOf s)
+pub verdict-described : (ss : List Slot) (es : List Event) (s : Session) → Describes ss es s → VerdictOf ss es (verdictIs (verdictOf s))
 verdict-described ss es s h = rw size-is (go (s .count) refl (h .search))
   where
     size-is : s .pattern .size ≡ length ss
     size-is = ap (λ p. p .size) (h .pattern)
 
     go : (c : ℕ) → s .count ≡ c → Searched ss es (s .clocks) (s .table) c
-        → VerdictOf ss es (record { found = foundAt (s .count); numbers = numbersIn (s .table) (length ss) })
-    go zero q (searching c k d) = rw (eq-eqb (s .count) 0 q, found-numbers ss es (s .table) k .without d) (none d)
+        → VerdictOf ss es (foundIs (foundAt (s .count)) (numbersIn (s .table) (length ss)))
+    go zero q (searching c k d) =
+        let n = found-numbers ss es (s .table) k in
+        rw (eq-eqb (s .count) 0 q)
+        (record {
+          matches = (λ t. absurd (false≢true t), λ m. absurd (d m));
+          count = without d;
+          named = λ m. absurd (d m);
+          without = n .without;
+          beyond = n .beyond;
+        })
     go (suc m) q (matched lead later p l c k) =
         let n = found-numbers ss lead (s .table) k in
         let whole-lead : HasMatch ss lead = match-whole dependent fits ss lead (suc m) (count-match dependent fits c .0) in
+        let there : HasMatch ss es = rw p (match-append dependent fits ss lead later whole-lead) in
         rw (ne-eqb (s .count) 0 (λ z. let f : ⊥ = omega arith in f), q)
-        (match {n = suc m} {numbers = numbersIn (s .table) (length ss)}
-        (rw p (match-append dependent fits ss lead later whole-lead))
-        (rw p (count-stays dependent fits ss lead later m c))
-        (rw p (named-append dependent fits later (rw l at (n .named whole-lead))))
-        (n .beyond))
+        (record {
+          matches = (λ t. there, λ t. refl);
+          count = rw p (count-stays dependent fits ss lead later m c);
+          named = λ t. rw p (named-append dependent fits later (rw l at (n .named whole-lead)));
+          without = λ d. absurd (d there);
+          beyond = n .beyond;
+        })
 
 -- ---- an opening
 

@@ -5,14 +5,14 @@ use native.Mathlib.Decide.{decLt}
 use mathlib.Core.Path.{_≡_, sym, ap, _∙_}
 use mathlib.Core.Bool.{Bool, false, cond}
 use mathlib.Core.List.{List, [], reverse}
-use lib.Dec.{leb}
+use lib.Dec.{eqb, leb}
 use lib.ListN.{length, getD, replicate, getD-replicate, length-replicate}
 use lib.Seq.{ext-getD}
 use borrow.Author.Tests.{eq-eqb, ne-eqb, leb-true, leb-false}
 use Rattle.event.specs.declared.Event.{Event}
 use Rattle.event.specs.declared.Slot.{Slot}
-use Rattle.event.specs.Limits.{threads, locks, events}
-use Rattle.event.specs.Slots.{slotOf}
+use Rattle.event.specs.Limits.{threads, locks, slots, events}
+use Rattle.event.specs.Slots.{slotOf, fitting, threadsOf}
 use Rattle.event.proofs.Tests.{by-test}
 use Rattle.event.proofs.InRange.{from-range}
 use Rattle.rules.specs.Accepted.{refusalAfter, some, lockOf}
@@ -21,12 +21,14 @@ use Rattle.rules.proofs.StateLaws.{taken-in-range, too-many, after-refused}
 use Rattle.clock.specs.declared.Stamp.{Stamp}
 use Rattle.clock.specs.Clocks.{stampBy, clocksAfter}
 use Rattle.table.specs.Table.{offered, foundIn}
+use Rattle.table.proofs.Verdict.{unfit-leaves}
 use Rattle.session.specs.declared.Session.{Session}
-use Rattle.session.specs.declared.Answer.the-variants.{Taken, Refused}
+use Rattle.session.specs.declared.Answer.{Answer}
 use Rattle.session.specs.declared.Handed.{Handed}
 use Rattle.session.specs.declared.Verdict.{Verdict}
-use Rattle.session.specs.Model.{tableAfter, advanced, handed, verdictOf}
-use Rattle.session.specs.Meaning.{numberOf, takenBy, Describes, VerdictOf}
+use Rattle.session.specs.Answers.{refusal, answerIs, verdictIs}
+use Rattle.session.specs.Model.{Kept, keptOf, sessionOn, tableAfter, keptAdvanced, keptAfter, advanced, answerBy, handed, verdictOf}
+use Rattle.session.specs.Meaning.{takenBy, Describes, VerdictOf}
 use Rattle.session.proofs.Described.{handed-described, verdict-described}
 
 -- the rules' state of no events is all zeros
@@ -55,54 +57,78 @@ room state n e z =
     absurd (let f : ⊥ = let k : 9 ≡ 0 = sym nine ∙ z in omega arith in f))
     (λ q. leb-false events n q)
 
-module _ (s : Session) (e : Event) (state : List ℕ) (q : state ≡ stateAfter (s .state) (s .taken) e) where
-  pub refused-is : (k : ℕ) → k ≡ refusalBy (s .state) (s .taken) e → (k ≡ 0 → ⊥)
-      → _≡_ {A = Handed} (record { answer = Refused k 0; session = record { pattern = s .pattern; state = state; clocks = s .clocks; table = s .table; taken = s .taken; count = s .count } }) (handed s e)
-  unfolding handed
-  refused-is k p h =
-      let d : refusalBy (s .state) (s .taken) e ≡ 0 → ⊥ = λ z. h (p ∙ z) in
-      let kept : state ≡ s .state = q ∙ sym (after-refused (s .state) (s .taken) e d) in
-      rw (ne-eqb (refusalBy (s .state) (s .taken) e) 0 d)
-      (λ i. record {
-        answer = Refused (p i) 0;
-        session = record { pattern = s .pattern; state = kept i; clocks = s .clocks; table = s .table; taken = s .taken; count = s .count };
-      })
+-- ---- what is kept
+
+module _ (acting : List ℕ) (fit : List Bool) (size : ℕ) (k : Kept) (e : Event) (state : List ℕ) (q : state ≡ stateAfter (k .state) (k .taken) e) where
+  pub kept-refused : (refusalBy (k .state) (k .taken) e ≡ 0 → ⊥)
+      → _≡_ {A = Kept} (record { state = state; clocks = k .clocks; table = k .table; taken = k .taken; count = k .count }) (keptAfter acting fit size k e)
+  unfolding keptAfter
+  kept-refused d =
+      let same : state ≡ k .state = q ∙ sym (after-refused (k .state) (k .taken) e d) in
+      rw (ne-eqb (refusalBy (k .state) (k .taken) e) 0 d)
+      (λ i. record { state = same i; clocks = k .clocks; table = k .table; taken = k .taken; count = k .count })
 
   -- with a match, only the rules go on
-  pub matched-is : (s .count ≡ 0 → ⊥)
-      → _≡_ {A = Session} (record { pattern = s .pattern; state = state; clocks = s .clocks; table = s .table; taken = s .taken + 1; count = s .count }) (advanced s e)
-  unfolding advanced
-  matched-is h =
-      rw (ne-eqb (s .count) 0 h)
-      (λ i. record { pattern = s .pattern; state = q i; clocks = s .clocks; table = s .table; taken = s .taken + 1; count = s .count })
+  pub kept-matched : (k .count ≡ 0 → ⊥)
+      → _≡_ {A = Kept} (record { state = state; clocks = k .clocks; table = k .table; taken = k .taken + 1; count = k .count }) (keptAdvanced acting fit size k e)
+  unfolding keptAdvanced
+  kept-matched h =
+      rw (ne-eqb (k .count) 0 h)
+      (λ i. record { state = q i; clocks = k .clocks; table = k .table; taken = k .taken + 1; count = k .count })
 
-  -- without one, the event's stamp is offered to the table
-  pub searched-is : (stamp : Stamp) (clocks table : List ℕ) (found : Bool) (count : ℕ) → s .count ≡ 0 → stamp ≡ stampBy (s .clocks) e → clocks ≡ clocksAfter (s .clocks) e
-      → table ≡ offered (s .table) (s .pattern .slots) (s .pattern .size) e stamp (s .taken + 1) → found ≡ foundIn table (s .pattern .size) → count ≡ cond found (s .taken + 1) 0
-      → _≡_ {A = Session} (record { pattern = s .pattern; state = state; clocks = clocks; table = table; taken = s .taken + 1; count = count }) (advanced s e)
-  unfolding advanced
-  searched-is stamp clocks table found count h st cl tb fo co =
-      let t : table ≡ tableAfter s e = tb ∙ ap (λ (x : Stamp). offered (s .table) (s .pattern .slots) (s .pattern .size) e x (s .taken + 1)) st in
-      let c : count ≡ cond (foundIn (tableAfter s e) (s .pattern .size)) (s .taken + 1) 0 =
-      co ∙ ap (λ (b : Bool). cond b (s .taken + 1) 0) (fo ∙ ap (λ (x : List ℕ). foundIn x (s .pattern .size)) t) in
-      rw (eq-eqb (s .count) 0 h)
-      (λ i. record { pattern = s .pattern; state = q i; clocks = cl i; table = t i; taken = s .taken + 1; count = c i })
+  -- without one, the event is offered to the table with its stamp
+  pub kept-searched : (stamp : Stamp) (clocks table : List ℕ) (found : Bool) (count : ℕ) → k .count ≡ 0 → stamp ≡ stampBy (k .clocks) e → clocks ≡ clocksAfter (k .clocks) e
+      → table ≡ offered (k .table) acting fit size (e .thread) stamp (k .taken + 1) → found ≡ foundIn table size → count ≡ cond found (k .taken + 1) 0
+      → _≡_ {A = Kept} (record { state = state; clocks = clocks; table = table; taken = k .taken + 1; count = count }) (keptAdvanced acting fit size k e)
+  unfolding keptAdvanced
+  kept-searched stamp clocks table found count h st cl tb fo co =
+      let t : table ≡ tableAfter acting fit size k e = tb ∙ ap (λ (x : Stamp). offered (k .table) acting fit size (e .thread) x (k .taken + 1)) st in
+      let c : count ≡ cond (foundIn (tableAfter acting fit size k e) size) (k .taken + 1) 0 =
+      co ∙ ap (λ (b : Bool). cond b (k .taken + 1) 0) (fo ∙ ap (λ (x : List ℕ). foundIn x size) t) in
+      rw (eq-eqb (k .count) 0 h)
+      (λ i. record { state = q i; clocks = cl i; table = t i; taken = k .taken + 1; count = c i })
 
   -- an event that fits no slot moves the clocks alone
-  pub idle-is : (stamp : Stamp) (clocks : List ℕ) → s .count ≡ 0 → stamp ≡ stampBy (s .clocks) e → clocks ≡ clocksAfter (s .clocks) e
-      → offered (s .table) (s .pattern .slots) (s .pattern .size) e stamp (s .taken + 1) ≡ s .table → foundIn (s .table) (s .pattern .size) ≡ false
-      → _≡_ {A = Session} (record { pattern = s .pattern; state = state; clocks = clocks; table = s .table; taken = s .taken + 1; count = s .count }) (advanced s e)
-  idle-is stamp clocks h st cl id none =
-      searched-is stamp clocks (s .table) false (s .count) h st cl (sym id) (sym none) h
+  pub kept-idle : (stamp : Stamp) (clocks : List ℕ) → k .count ≡ 0 → stamp ≡ stampBy (k .clocks) e → clocks ≡ clocksAfter (k .clocks) e
+      → ((j : ℕ) → j < slots → getD fit j false ≡ false) → foundIn (k .table) size ≡ false
+      → _≡_ {A = Kept} (record { state = state; clocks = clocks; table = k .table; taken = k .taken + 1; count = k .count }) (keptAdvanced acting fit size k e)
+  kept-idle stamp clocks h st cl unfit none =
+      kept-searched stamp clocks (k .table) false (k .count) h st cl (sym (unfit-leaves acting fit size (e .thread) stamp (k .taken + 1) (k .table) unfit)) (sym none) h
 
-pub taken-is : (s after : Session) (e : Event) → refusalBy (s .state) (s .taken) e ≡ 0 → after ≡ advanced s e → _≡_ {A = Handed} (record { answer = Taken; session = after }) (handed s e)
+pub kept-taken : (acting : List ℕ) (fit : List Bool) (size : ℕ) (k after : Kept) (e : Event) → refusalBy (k .state) (k .taken) e ≡ 0
+    → after ≡ keptAdvanced acting fit size k e → after ≡ keptAfter acting fit size k e
+unfolding keptAfter
+kept-taken acting fit size k after e z q = rw (eq-eqb (refusalBy (k .state) (k .taken) e) 0 z) q
+
+-- ---- the session
+
+pub advanced-is : (s : Session) (e : Event) (after : Kept)
+    → after ≡ keptAdvanced (threadsOf (s .pattern .slots)) (fitting (s .pattern .slots) e) (s .pattern .size) (keptOf s) e
+    → sessionOn (s .pattern) after ≡ advanced s e
+unfolding advanced
+advanced-is s e after q = ap (sessionOn (s .pattern)) q
+
+pub handed-is : (s : Session) (e : Event) (a : Answer) (after : Kept) → a ≡ answerBy (refusalBy (s .state) (s .taken) e)
+    → after ≡ keptAfter (threadsOf (s .pattern .slots)) (fitting (s .pattern .slots) e) (s .pattern .size) (keptOf s) e
+    → _≡_ {A = Handed} (record { answer = a; session = sessionOn (s .pattern) after }) (handed s e)
 unfolding handed
-taken-is s after e z q = rw (eq-eqb (refusalBy (s .state) (s .taken) e) 0 z) (λ i. record { answer = Taken; session = q i })
+handed-is s e a after p q = λ i. record { answer = p i; session = sessionOn (s .pattern) (q i) }
+
+-- "Session and lent buffers keep their contents.": an event that is refused leaves the session literally as it was
+pub refused-unchanged : (s : Session) (e : Event) → (answerIs (handed s e .answer) .number ≡ 0 → ⊥) → handed s e .session ≡ s
+unfolding handed keptAfter
+refused-unchanged s e h =
+    by-test (eqb (refusalBy (s .state) (s .taken) e) 0)
+    (λ q. absurd (h (rw q)))
+    (λ q. rw q)
 
 -- what the model says of one event is what the contract asks
 pub after : (s : Session) (e : Event) (r : Handed) → r ≡ handed s e
-    → (r ≡ handed s e) × ((ss : List Slot) (es : List Event) → Describes ss es s → (numberOf (r .answer) ≡ refusalAfter (reverse es) e) × Describes ss (takenBy es e) (r .session))
+    → (r ≡ handed s e)
+    × ((ss : List Slot) (es : List Event) → Describes ss es s
+    → (answerIs (r .answer) ≡ refusal (refusalAfter (reverse es) e) 0) × Describes ss (takenBy es e) (r .session))
 after s e r q = (q, λ ss es h. rw q (handed-described ss es s h e))
 
-pub verdict-after : (s : Session) (r : Verdict) → r ≡ verdictOf s → (r ≡ verdictOf s) × ((ss : List Slot) (es : List Event) → Describes ss es s → VerdictOf ss es r)
+pub verdict-after : (s : Session) (r : Verdict) → r ≡ verdictOf s
+    → (r ≡ verdictOf s) × ((ss : List Slot) (es : List Event) → Describes ss es s → VerdictOf ss es (verdictIs r))
 verdict-after s r q = (q, λ ss es h. rw q (verdict-described ss es s h))

@@ -1,53 +1,62 @@
 -- Demand 3: what is so of a session and of a run for every list of events, the whole list and not each call.
 use Prim.Native.Nat.{ℕ}
 use mathlib.Core.Path.{_≡_}
-use mathlib.Core.Bool.{Bool, true, false}
 use mathlib.Core.List.{List, [], _∷_, reverse}
 use lib.ListN.{length, replicate}
 use Rattle.event.specs.declared.Event.{Event}
 use Rattle.event.specs.declared.Slot.{Slot}
 use Rattle.rules.specs.Accepted.{Accepted, refusalAfter, takenAfter, takenFrom}
-use Rattle.log.specs.Whole.{Heights, accepted, logBytes, readPattern}
+use Rattle.log.specs.Whole.{Heights, accepted, logBytes, readLog, readPattern}
+use Rattle.dependence.specs.Order.{Reaches}
 use Rattle.session.specs.declared.Session.{Session}
-use Rattle.session.specs.declared.Found.{Found}
-use Rattle.session.specs.declared.Found.the-variants.{Match, None}
-use Rattle.session.specs.declared.Verdict.{Verdict}
-use Rattle.session.specs.declared.Judged.{Judged}
-use Rattle.session.specs.Model.{handed, handedAll, verdictOf, judgedBy}
-use Rattle.session.specs.Meaning.{numberOf, Describes, VerdictOf, RunOf}
+use Rattle.session.specs.declared.Opened.{Opened}
+use Rattle.session.specs.Answers.{refusal, Refusal, answerIs, Ruling, verdictIs, nothing, Given}
+use Rattle.session.specs.Model.{slotsUsed, handed, handedAll, verdictOf}
+use Rattle.session.specs.Meaning.{VerdictOf, RunOf}
 
--- the number that each event of a list gets, handed over one after another; 0 for one that is taken
-unfoldable pub answers : Session → List Event → List ℕ
+-- what is answered to each event of a list, handed over one after another: "Each call gets the session that the last one returned"
+unfoldable pub answers : Session → List Event → List Refusal
 answers s [] = []
-answers s (e ∷ es) = numberOf (handed s e .answer) ∷ answers (handed s e .session) es
+answers s (e ∷ es) = answerIs (handed s e .answer) ∷ answers (handed s e .session) es
 
--- the numbers that the rules give, by the events taken before, the newest first
-unfoldable pub refusals : List Event → List Event → List ℕ
+-- what the rules answer, by the events taken before, the newest first: "its offset is 0 for a session"
+unfoldable pub refusals : List Event → List Event → List Refusal
 refusals past [] = []
-refusals past (e ∷ es) = refusalAfter past e ∷ refusals (takenAfter past e) es
+refusals past (e ∷ es) = refusal (refusalAfter past e) 0 ∷ refusals (takenAfter past e) es
 
 -- the events taken of a list, in order
 abbrev pub takenOf : List Event → List Event
 takenOf events = reverse (takenFrom [] events)
 
-abbrev pub isMatch : Found → Bool
-isMatch (Match n) = true
-isMatch None = false
+-- what the session says once the events of a list have been handed over
+abbrev pub saidAfter : Session → List Event → Ruling
+saidAfter s events = verdictIs (verdictOf (handedAll s events))
 
--- "For every list of events, good or bad, handed one after another to a session fresh from its opening": the number of each, the events taken,
--- and "after each event", each list being the leading part of longer ones, the verdict
-pub record HistoryOf (ss : List Slot) (s : Session) (events : List Event) : Type 0 where
-  pub numbers : answers s events ≡ refusals [] events
-  pub taken : Accepted (takenOf events)
-  pub session : Describes ss (takenOf events) (handedAll s events)
-  pub verdict : VerdictOf ss (takenOf events) (verdictOf (handedAll s events))
-
--- "All orders so reached are accepted and get the same answer, match or none.": an order of the events taken, given to a session fresh from its opening,
--- and its log given to a run on a pattern that is read as the same slots
+-- "All orders so reached are accepted and get the same answer, match or none.": "The answer of an order is that of a session opened afresh on the same
+-- pattern and handed the order's events, each of which it takes, and that of a run over the log that holds them."
 pub record SameAnswer (ss : List Slot) (s : Session) (events order : List Event) : Type 0 where
   pub accepted-too : Accepted order
-  pub each-taken : answers s order ≡ replicate (length order) 0
+  pub each-taken : answers s order ≡ replicate (length order) (refusal 0 0)
   pub all-taken : takenOf order ≡ order
-  pub same : isMatch (verdictOf (handedAll s order) .found) ≡ isMatch (verdictOf (handedAll s events) .found)
-  pub run-same : Heights order → (pattern : List ℕ) → readPattern pattern ≡ accepted ss → (r : Judged) → RunOf pattern (logBytes order) r
-      → (v : Verdict) × (r ≡ judgedBy v) × VerdictOf ss order v × (isMatch (v .found) ≡ isMatch (verdictOf (handedAll s events) .found))
+  pub same : saidAfter s order .matches ≡ saidAfter s events .matches
+  pub run-same : Heights order → (pattern : List ℕ) → readPattern pattern ≡ accepted ss → (g : Given) → RunOf pattern (logBytes order) g
+      → (g .refused ≡ nothing) × VerdictOf ss order (g .ruling) × (g .ruling .matches ≡ saidAfter s events .matches)
+
+-- "Demand 3 is a single claim about the whole list of events": a pattern's bytes, what opening gave for them, and every list of events, good or bad.
+-- What each event is answered; the events taken; the verdict, after the opening (no events) and after every call (each list is the leading part of
+-- longer ones); and every order reached from the events taken
+pub record EveryHistory (bytes : List ℕ) (opened : Opened) (events : List Event) : Type 0 where
+  pub each-answer : answers (opened .session) events ≡ refusals [] events
+  pub taken : Accepted (takenOf events)
+  pub verdict : VerdictOf (slotsUsed (readPattern bytes)) (takenOf events) (saidAfter (opened .session) events)
+  pub orders : (order : List Event) → Reaches (takenOf events) order → SameAnswer (slotsUsed (readPattern bytes)) (opened .session) events order
+
+-- the same for runs: g is what a run gave that refused nothing; a run with the same pattern over the log of an order reached
+pub record SameRun (pattern : List ℕ) (g : Given) (order : List Event) : Type 0 where
+  pub reads-too : readLog (logBytes order) ≡ accepted order
+  pub same : (h : Given) → RunOf pattern (logBytes order) h → (h .refused ≡ nothing) × (h .ruling .matches ≡ g .ruling .matches)
+
+pub record EveryRun (pattern log : List ℕ) (g : Given) : Type 0 where
+  pub events : List Event
+  pub reads : readLog log ≡ accepted events
+  pub orders : (order : List Event) → Reaches events order → SameRun pattern g order

@@ -1,6 +1,8 @@
 -- What a session is described by, and what its verdict means.
 use Prim.Native.Nat.{ℕ, suc, _≤_}
 use mathlib.Core.Path.{_≡_}
+use mathlib.Core.Logic.{_↔_}
+use mathlib.Core.Bool.{true}
 use mathlib.Core.List.{List, [], _++_, reverse}
 use lib.ListN.{length, getD, take, replicate}
 use Rattle.event.specs.declared.Event.{Event}
@@ -13,19 +15,9 @@ use Rattle.clock.specs.Holds as clock
 use Rattle.table.specs.Keeps.{Keeps}
 use Rattle.dependence.specs.Order.{HasMatch, IsCount, Named}
 use Rattle.session.specs.declared.Session.{Session}
-use Rattle.session.specs.declared.Answer.{Answer}
-use Rattle.session.specs.declared.Answer.the-variants.{Taken, Refused}
-use Rattle.session.specs.declared.Found.the-variants.{Match, None}
-use Rattle.session.specs.declared.Verdict.{Verdict}
 use Rattle.session.specs.declared.Opened.{Opened}
-use Rattle.session.specs.declared.Outcome.the-variants as outcome
-use Rattle.session.specs.declared.Judged.{Judged}
-use Rattle.session.specs.Model.{slotsUsed, freshOn, judgedBy}
-
--- the number of an answer; 0 where the event is taken
-abbrev pub numberOf : Answer → ℕ
-numberOf Taken = 0
-numberOf (Refused k o) = k
+use Rattle.session.specs.Answers.{refusal, Ruling, noRuling, Refused, nothing, log, Given}
+use Rattle.session.specs.Model.{slotsUsed, freshOn}
 
 -- the events taken, in order, once e has been handed over
 abbrev pub takenBy : List Event → Event → List Event
@@ -48,10 +40,12 @@ pub record Describes (ss : List Slot) (es : List Event) (s : Session) : Type 0 w
 
 -- "A session's verdict covers the events taken so far: match with the smallest count of leading events that suffices and one event number per slot,
 -- or none with count 0 and all slot numbers 0." "Numbers beyond the pattern's length are 0."
-pub data VerdictOf (ss : List Slot) (es : List Event) : Verdict → Type 0 where
-  match : {n : ℕ} {numbers : List ℕ} → HasMatch ss es → IsCount ss es n → Named ss es n (take (length ss) numbers)
-      → ((j : ℕ) → length ss ≤ j → getD numbers j 0 ≡ 0) → VerdictOf ss es (record { found = Match n; numbers = numbers })
-  none : ¬ HasMatch ss es → VerdictOf ss es (record { found = None; numbers = replicate slots 0 })
+pub record VerdictOf (ss : List Slot) (es : List Event) (r : Ruling) : Type 0 where
+  pub matches : (r .matches ≡ true) ↔ HasMatch ss es
+  pub count : IsCount ss es (r .count)
+  pub named : HasMatch ss es → Named ss es (r .count) (take (length ss) (r .events))
+  pub without : ¬ HasMatch ss es → r .events ≡ replicate slots 0
+  pub beyond : (j : ℕ) → length ss ≤ j → getD (r .events) j 0 ≡ 0
 
 -- what an opening gives: the pattern's own answer, and a session on its slots, or on the lone slot, with no event taken
 pub record OpenedOn (bytes : List ℕ) (r : Opened) : Type 0 where
@@ -60,11 +54,13 @@ pub record OpenedOn (bytes : List ℕ) (r : Opened) : Type 0 where
   pub described : Describes (slotsUsed (readPattern bytes)) [] (r .session)
 
 -- what a run over a log gives, its pattern accepted: "A refusal anywhere in the log wins over a match before it."
-pub data RunOn (ss : List Slot) (bytes : List ℕ) : Judged → Type 0 where
-  log-refused : {k o : ℕ} → readLog bytes ≡ refused k o → RunOn ss bytes (record { outcome = outcome.LogRefused k o; numbers = replicate slots 0 })
-  judged : {es : List Event} (v : Verdict) → readLog bytes ≡ accepted es → VerdictOf ss es v → RunOn ss bytes (judgedBy v)
+pub data RunOn (ss : List Slot) (bytes : List ℕ) : Given → Type 0 where
+  log-refused : {k o : ℕ} → readLog bytes ≡ refused k o → RunOn ss bytes (record { refused = log; refusal = refusal k o; ruling = noRuling })
+  judged : {es : List Event} {r : Ruling} → readLog bytes ≡ accepted es → VerdictOf ss es r
+      → RunOn ss bytes (record { refused = nothing; refusal = refusal 0 0; ruling = r })
 
 -- "the pattern is read before the log"
-pub data RunOf (pattern bytes : List ℕ) : Judged → Type 0 where
-  pattern-refused : {k o : ℕ} → readPattern pattern ≡ refused k o → RunOf pattern bytes (record { outcome = outcome.PatternRefused k o; numbers = replicate slots 0 })
-  over-log : {ss : List Slot} {r : Judged} → readPattern pattern ≡ accepted ss → RunOn ss bytes r → RunOf pattern bytes r
+pub data RunOf (pattern bytes : List ℕ) : Given → Type 0 where
+  pattern-refused : {k o : ℕ} → readPattern pattern ≡ refused k o
+      → RunOf pattern bytes (record { refused = Refused.pattern; refusal = refusal k o; ruling = noRuling })
+  over-log : {ss : List Slot} {g : Given} → readPattern pattern ≡ accepted ss → RunOn ss bytes g → RunOf pattern bytes g

@@ -1,12 +1,13 @@
 -- What opening, an event and the verdict make of a session, for every session.
 use Prim.Native.Nat.{ℕ, _+_}
-use mathlib.Core.Bool.{cond}
+use mathlib.Core.Bool.{Bool, cond}
 use mathlib.Core.List.{List, [], _∷_}
 use lib.Dec.{eqb}
 use lib.ListN.{replicate}
 use Rattle.event.specs.declared.Event.{Event}
 use Rattle.event.specs.declared.Slot.{Slot}
 use Rattle.event.specs.Limits.{threads, locks}
+use Rattle.event.specs.Slots.{fitting, threadsOf}
 use Rattle.rules.specs.State.{refusalBy, stateAfter}
 use Rattle.log.specs.declared.Pattern.{Pattern}
 use Rattle.log.specs.Whole.{Whole, accepted, refused, blank}
@@ -14,6 +15,7 @@ use Rattle.clock.specs.Rows.{size as clockSize}
 use Rattle.clock.specs.Clocks.{stampBy, clocksAfter}
 use Rattle.table.specs.Table.{offered, freshTable, foundIn, numbersIn}
 use Rattle.session.specs.declared.Session.{Session}
+use Rattle.session.specs.declared.Answer.{Answer}
 use Rattle.session.specs.declared.Answer.the-variants.{Taken, Refused}
 use Rattle.session.specs.declared.Handed.{Handed}
 use Rattle.session.specs.declared.Found.{Found}
@@ -22,6 +24,8 @@ use Rattle.session.specs.declared.Verdict.{Verdict}
 use Rattle.session.specs.declared.Outcome.{Outcome}
 use Rattle.session.specs.declared.Outcome.the-variants as outcome
 use Rattle.session.specs.declared.Judged.{Judged}
+
+-- ---- opening
 
 -- the slots that a session looks for: those of the pattern, or, "A refused opening hands back .. the session opened on the lone slot thread 0, mark 0"
 abbrev pub slotsUsed : Whole Slot → List Slot
@@ -32,48 +36,71 @@ slotsUsed (refused k o) = blank ∷ []
 abbrev pub orLone : Pattern → Pattern
 orLone p = cond (eqb (p .size) 0) (record { slots = p .slots; size = 1 }) p
 
--- a session on a pattern, "with no event taken"
+-- what a session keeps of the events taken, beside its pattern
+pub record Kept : Type 0 where
+  pub state : List ℕ
+  pub clocks : List ℕ
+  pub table : List ℕ
+  pub taken : ℕ
+  pub count : ℕ
+
+abbrev pub keptOf : Session → Kept
+keptOf s = record { state = s .state; clocks = s .clocks; table = s .table; taken = s .taken; count = s .count }
+
+abbrev pub sessionOn : Pattern → Kept → Session
+sessionOn p k = record { pattern = p; state = k .state; clocks = k .clocks; table = k .table; taken = k .taken; count = k .count }
+
+-- "with no event taken"
+abbrev pub freshKept : Kept
+freshKept = record { state = replicate (threads + locks) 0; clocks = replicate clockSize 0; table = freshTable; taken = 0; count = 0 }
+
 abbrev pub freshOn : Pattern → Session
-freshOn p = record {
-  pattern = p;
-  state = replicate (threads + locks) 0;
-  clocks = replicate clockSize 0;
-  table = freshTable;
-  taken = 0;
-  count = 0;
-}
+freshOn p = sessionOn p freshKept
 
--- the table once an event has been offered
-abbrev pub tableAfter : Session → Event → List ℕ
-tableAfter s e = offered (s .table) (s .pattern .slots) (s .pattern .size) e (stampBy (s .clocks) e) (s .taken + 1)
+-- ---- an event; of the pattern it takes the thread of each slot, which slots the event fits, and how many slots there are
 
--- the session once an event is taken: with a match, only the rules go on
+-- the table once the event has been offered
+abbrev pub tableAfter : List ℕ → List Bool → ℕ → Kept → Event → List ℕ
+tableAfter acting fit size k e = offered (k .table) acting fit size (e .thread) (stampBy (k .clocks) e) (k .taken + 1)
+
+-- what is kept once the event is taken: with a match, only the rules go on
+unfoldable pub keptAdvanced : List ℕ → List Bool → ℕ → Kept → Event → Kept
+keptAdvanced acting fit size k e =
+    cond (eqb (k .count) 0)
+    (record {
+      state = stateAfter (k .state) (k .taken) e;
+      clocks = clocksAfter (k .clocks) e;
+      table = tableAfter acting fit size k e;
+      taken = k .taken + 1;
+      count = cond (foundIn (tableAfter acting fit size k e) size) (k .taken + 1) 0;
+    })
+    (record { state = stateAfter (k .state) (k .taken) e; clocks = k .clocks; table = k .table; taken = k .taken + 1; count = k .count })
+
+-- what is kept once the event has been handed over: a refused one leaves it as it was
+unfoldable pub keptAfter : List ℕ → List Bool → ℕ → Kept → Event → Kept
+keptAfter acting fit size k e = cond (eqb (refusalBy (k .state) (k .taken) e) 0) (keptAdvanced acting fit size k e) k
+
+-- the same of a session
 unfoldable pub advanced : Session → Event → Session
 advanced s e =
-    cond (eqb (s .count) 0)
-    (record {
-      pattern = s .pattern;
-      state = stateAfter (s .state) (s .taken) e;
-      clocks = clocksAfter (s .clocks) e;
-      table = tableAfter s e;
-      taken = s .taken + 1;
-      count = cond (foundIn (tableAfter s e) (s .pattern .size)) (s .taken + 1) 0;
-    })
-    (record {
-      pattern = s .pattern;
-      state = stateAfter (s .state) (s .taken) e;
-      clocks = s .clocks;
-      table = s .table;
-      taken = s .taken + 1;
-      count = s .count;
-    })
+    sessionOn (s .pattern) (keptAdvanced (threadsOf (s .pattern .slots)) (fitting (s .pattern .slots) e) (s .pattern .size) (keptOf s) e)
 
--- the session once an event has been handed over: a refused one leaves it as it was
+abbrev pub answerBy : ℕ → Answer
+answerBy k = cond (eqb k 0) Taken (Refused k 0)
+
 unfoldable pub handed : Session → Event → Handed
 handed s e =
-    cond (eqb (refusalBy (s .state) (s .taken) e) 0)
-    (record { answer = Taken; session = advanced s e })
-    (record { answer = Refused (refusalBy (s .state) (s .taken) e) 0; session = s })
+    record {
+      answer = answerBy (refusalBy (s .state) (s .taken) e);
+      session = sessionOn (s .pattern) (keptAfter (threadsOf (s .pattern .slots)) (fitting (s .pattern .slots) e) (s .pattern .size) (keptOf s) e);
+    }
+
+-- the session after each event of a list in turn
+unfoldable pub handedAll : Session → List Event → Session
+handedAll s [] = s
+handedAll s (e ∷ es) = handedAll (handed s e .session) es
+
+-- ---- the verdict
 
 abbrev pub foundAt : ℕ → Found
 foundAt n = cond (eqb n 0) None (Match n)
@@ -81,11 +108,6 @@ foundAt n = cond (eqb n 0) None (Match n)
 -- what a session has found: the count, and the numbers in the table
 abbrev pub verdictOf : Session → Verdict
 verdictOf s = record { found = foundAt (s .count); numbers = numbersIn (s .table) (s .pattern .size) }
-
--- the session after each event of a list in turn
-unfoldable pub handedAll : Session → List Event → Session
-handedAll s [] = s
-handedAll s (e ∷ es) = handedAll (handed s e .session) es
 
 -- a verdict as a run gives it
 abbrev pub asOutcome : Found → Outcome

@@ -11,9 +11,11 @@ ghost use Rattle.event.specs.declared.Event.{Event};
 ghost use Rattle.event.specs.declared.Slot.{Slot};
 ghost use Rattle.event.specs.Limits.{slots as slotLimit};
 ghost use Rattle.rules.specs.Accepted.{refusalAfter};
+ghost use Rattle.rules.specs.State.{refusalBy};
 ghost use Rattle.log.specs.Whole.{GoodPattern, patternOf};
-ghost use Rattle.session.specs.Model.{orLone, freshOn, handed, foundAt, verdictOf, judgedBy};
-ghost use Rattle.session.specs.Meaning.{OpenedOn, Describes, VerdictOf, numberOf, takenBy, RunOn, RunOf};
+ghost use Rattle.session.specs.Answers.{refusal, answerIs, verdictIs, judgedIs};
+ghost use Rattle.session.specs.Model.{orLone, freshOn, keptAfter, handed, answerBy, foundAt, verdictOf, judgedBy};
+ghost use Rattle.session.specs.Meaning.{OpenedOn, Describes, VerdictOf, takenBy, RunOn, RunOf};
 
 // The pattern, what is kept of the events taken, how many they are, and the count of the match, 0 without one.
 pub struct Session {
@@ -21,8 +23,8 @@ pub struct Session {
     pub state: [u8; rules::STATE],
     pub clocks: [u16; clock::CLOCKS],
     pub table: [u16; table::TABLE],
-    pub taken: usize,
-    pub count: usize,
+    pub taken: u16,
+    pub count: u16,
 }
 
 // The session, beside what became of the pattern: a refused one leaves a session on the lone slot thread 0, mark 0.
@@ -84,45 +86,47 @@ impl Session {
     }
 
     // Hands over one event. A refused one leaves the session as it was.
-    pub fn take(mut self, e: Event) -> Handed
+    pub fn take(self, e: Event) -> Handed
         ensures exact { λ r. ⌜ r ≡ handed self e ⌝ }
-        ensures history { λ r. ⌜ ((ss : List Slot) (es : List Event) → Describes ss es self → (numberOf (r .answer) ≡ refusalAfter (reverse es) e) × Describes ss (takenBy es e) (r .session)) ⌝ }
+        ensures history { λ r. ⌜ ((ss : List Slot) (es : List Event) → Describes ss es self → (answerIs (r .answer) ≡ refusal (refusalAfter (reverse es) e) 0) × Describes ss (takenBy es e) (r .session)) ⌝ }
     {
-        let taken = self.taken;
-        let k = rules::admit(&mut self.state, taken, e);
-        if k != 0 {
-            let answer = Answer::Refused {
-                number: k,
-                offset: 0,
-            };
-            let session = self;
-            return Handed { answer, session };
-        }
-        let n = taken + 1;
-        self.taken = n;
-        if self.count != 0 {
-            return Handed {
-                answer: Answer::Taken,
-                session: self,
-            };
-        }
         let p = self.pattern;
         let slots = p.slots;
         let size = p.size;
-        let stamp = clock::advance(&mut self.clocks, e);
-        table::offer(&mut self.table, slots, size, e, stamp, n as u16);
-        let found = table::found(&self.table, size);
-        self.count = count_if(found, n);
-        Handed {
-            answer: Answer::Taken,
-            session: self,
-        }
+        let mut state = self.state;
+        let mut clocks = self.clocks;
+        let mut table = self.table;
+        let mut taken = self.taken;
+        let mut count = self.count;
+        let acting = event::threads_of(slots);
+        let fit = event::fitting(slots, e);
+        let number = hand(
+            &mut state,
+            &mut clocks,
+            &mut table,
+            &mut taken,
+            &mut count,
+            acting,
+            fit,
+            size,
+            e,
+        );
+        let answer = answer_by(number);
+        let session = Session {
+            pattern: p,
+            state,
+            clocks,
+            table,
+            taken,
+            count,
+        };
+        Handed { answer, session }
     }
 
     // What the session has found in the events taken so far.
     pub fn verdict(self) -> Verdict
         ensures exact { λ r. ⌜ r ≡ verdictOf self ⌝ }
-        ensures history { λ r. ⌜ ((ss : List Slot) (es : List Event) → Describes ss es self → VerdictOf ss es r) ⌝ }
+        ensures history { λ r. ⌜ ((ss : List Slot) (es : List Event) → Describes ss es self → VerdictOf ss es (verdictIs r)) ⌝ }
     {
         let p = self.pattern;
         let size = p.size;
@@ -132,9 +136,57 @@ impl Session {
     }
 }
 
+// Hands one event to a session whose parts are lent: the number of its refusal, or 0 where it is taken. A refused one leaves them as they were.
+// Of the pattern it takes the thread of each slot, which slots the event fits, and how many slots there are.
+pub fn hand(
+    state: &mut [u8; rules::STATE],
+    clocks: &mut [u16; clock::CLOCKS],
+    table: &mut [u16; table::TABLE],
+    taken: &mut u16,
+    count: &mut u16,
+    acting: [u8; event::SLOTS],
+    fit: [bool; event::SLOTS],
+    size: usize,
+    e: Event,
+) -> u8
+    ensures number { λ r. ⌜ r ≡ refusalBy (now (state .entry)) (now (taken .entry)) e ⌝ }
+    ensures after { λ r. ⌜ record { state = now (state .exit); clocks = now (clocks .exit); table = now (table .exit); taken = now (taken .exit); count = now (count .exit) } ≡ keptAfter acting fit size (record { state = now (state .entry); clocks = now (clocks .entry); table = now (table .entry); taken = now (taken .entry); count = now (count .entry) }) e ⌝ }
+{
+    let before = wide(*taken);
+    let k = rules::admit(state, before, e);
+    if k != 0 {
+        return k;
+    }
+    let n = (before + 1) as u16;
+    *taken = n;
+    if *count != 0 {
+        return 0;
+    }
+    let stamp = clock::advance(clocks, e);
+    table::offer(table, acting, fit, size, e.thread, stamp, n);
+    let found = table::found(table, size);
+    *count = count_if(found, n);
+    0
+}
+
+fn wide(x: u16) -> usize
+    ensures { λ r. ⌜ r ≡ x ⌝ }
+{
+    x as usize
+}
+
+fn answer_by(number: u8) -> Answer
+    ensures { λ r. ⌜ r ≡ answerBy number ⌝ }
+{
+    if number == 0 {
+        return Answer::Taken;
+    }
+    Answer::Refused { number, offset: 0 }
+}
+
 // Judges a whole log by a pattern.
 pub fn run(pattern: &[u8], log: &[u8]) -> Judged
-    ensures { λ r. ⌜ RunOf (now (pattern .entry)) (now (log .entry)) r ⌝ }
+    ensures { λ r. ⌜ RunOf (now (pattern .entry)) (now (log .entry)) (judgedIs r) ⌝ }
 {
     let read = log::read_pattern(pattern);
     let answer = read.answer;
@@ -150,11 +202,12 @@ pub fn run(pattern: &[u8], log: &[u8]) -> Judged
 
 // Keeps one session in place for the whole log, and lends its parts.
 fn run_on(p: Pattern, log: &[u8]) -> Judged
-    ensures { λ r. ⌜ ((ss : List Slot) → GoodPattern ss → p ≡ patternOf ss → RunOn ss (now (log .entry)) r) ⌝ }
+    ensures { λ r. ⌜ ((ss : List Slot) → GoodPattern ss → p ≡ patternOf ss → RunOn ss (now (log .entry)) (judgedIs r)) ⌝ }
 {
     let mut z = fresh(p);
     let slots = p.slots;
     let size = p.size;
+    let acting = event::threads_of(slots);
     let keys = table::keys(slots);
     let mut at: usize = 0;
     loop {
@@ -165,12 +218,12 @@ fn run_on(p: Pattern, log: &[u8]) -> Judged
             };
             return log_refused(number, offset);
         };
-        let taken = z.taken;
+        let taken = wide(z.taken);
         let k = rules::admit(&mut z.state, taken, event);
         if k != 0 {
             return log_refused(k, at);
         }
-        let n = taken + 1;
+        let n = (taken + 1) as u16;
         z.taken = n;
         let here = at;
         at = next;
@@ -181,7 +234,8 @@ fn run_on(p: Pattern, log: &[u8]) -> Judged
         if !table::wants(keys, command::key_at(log, here)) {
             continue;
         }
-        table::offer(&mut z.table, slots, size, event, stamp, n as u16);
+        let fit = event::fitting(slots, event);
+        table::offer(&mut z.table, acting, fit, size, event.thread, stamp, n);
         let found = table::found(&z.table, size);
         z.count = count_if(found, n);
     }
@@ -213,16 +267,16 @@ fn outcome_of(v: Verdict) -> Judged
     }
 }
 
-fn found_at(count: usize) -> Found
+fn found_at(count: u16) -> Found
     ensures { λ r. ⌜ r ≡ foundAt count ⌝ }
 {
     if count == 0 {
         return Found::None;
     }
-    Found::Match { count }
+    Found::Match { count: wide(count) }
 }
 
-fn count_if(found: bool, n: usize) -> usize
+fn count_if(found: bool, n: u16) -> u16
     ensures { λ r. ⌜ r ≡ cond found n 0 ⌝ }
 {
     if found { n } else { 0 }
