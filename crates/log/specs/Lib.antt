@@ -1,2 +1,3 @@
 pub mod Whole
-pub mod Written
+pub mod Step
+pub mod Calls
