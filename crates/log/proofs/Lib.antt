@@ -6,3 +6,4 @@ pub mod RowBytes
 pub mod LogRoundTrip
 pub mod PatternRoundTrip
 pub mod Writes
+pub mod Numbering

@@ -1,3 +1,4 @@
 pub mod Whole
 pub mod Step
 pub mod Calls
+pub mod Number
