@@ -10,6 +10,7 @@ use Rattle.event.specs.declared.Event.{Event}
 use Rattle.event.specs.declared.Slot.{Slot}
 use Rattle.event.specs.Slots.{fits}
 use Rattle.log.specs.Whole.{accepted, readLog}
+use Rattle.log.proofs.Numbering.{numbered-event}
 use Rattle.trace.specs.Before.{Numbered}
 use Rattle.trace.specs.Match.{Each, none, more}
 use Rattle.trace.proofs.Runs.{Among}
@@ -21,7 +22,6 @@ use Rattle.listing_text.specs.Text.{slotLine}
 use Rattle.listing_text.specs.Page.{linesOf, textOf}
 use Rattle.listing_text.specs.Listing as listing
 use Rattle.listing_text.specs.Listing.{SlotLines}
-use Rattle.listing_text.proofs.Lookup.{numbered-event}
 use Rattle.listing_text.proofs.SlotLines.{no-line, a-line}
 
 -- a line for each number up to the first 0 is a line per slot
@@ -40,7 +40,7 @@ module _ (bytes : List ℕ) (es : List Event) (q : readLog bytes ≡ accepted es
       whole : linesOf bytes slot (n ∷ (ns ++ zeros)) ≡ slotLine slot n e ++ linesOf bytes (slot + 1) (ns ++ zeros)
       whole =
           a-line bytes slot n (ns ++ zeros) (λ y. let a : Among (length es) n = numbered-among m in let f : ⊥ = omega arith in f)
-          ∙ ap (λ (x : Event). slotLine slot n x ++ linesOf bytes (slot + 1) (ns ++ zeros)) (sym (numbered-event bytes es q n e m))
+          ∙ ap (λ (x : Event). slotLine slot n x ++ linesOf bytes (slot + 1) (ns ++ zeros)) (numbered-event bytes es q n e m)
 
 pub listed : (pattern bytes : List ℕ) (r : Judged) → RunOf pattern bytes r → listing.Judged pattern bytes (textOf bytes (r .outcome) (r .numbers))
 listed pattern bytes r (pattern-refused q) = listing.pattern-refused q

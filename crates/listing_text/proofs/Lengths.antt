@@ -13,9 +13,10 @@ use Rattle.height.specs.declared.Metres.{Metres}
 use Rattle.height.specs.Rounding.{metresOf}
 use Rattle.session.specs.declared.Outcome.{Outcome}
 use Rattle.session.specs.declared.Outcome.the-variants.{Match, None, PatternRefused, LogRefused}
+use Rattle.log.specs.Number.{nthEvent}
 use Rattle.listing_text.specs.Text.{decimal, metresText, heightText, operationText, slotLine, refusalLine}
 use Rattle.listing_text.specs.Listing.{enough as room}
-use Rattle.listing_text.specs.Page.{eventFrom, linesOf, textOf}
+use Rattle.listing_text.specs.Page.{linesOf, textOf}
 use Rattle.listing_text.proofs.Decimal.{few-figures}
 
 number : (n : ℕ) → length (decimal n) ≤ 20
@@ -52,7 +53,7 @@ lines : (bytes : List ℕ) (slot : ℕ) (ns : List ℕ) → length (linesOf byte
 unfolding linesOf
 lines bytes slot [] = omega arith
 lines bytes slot (n ∷ ns) =
-    let l : length (slotLine slot n (eventFrom (n - 1) bytes 0)) ≤ 146 = line slot n (eventFrom (n - 1) bytes 0) in
+    let l : length (slotLine slot n (nthEvent n bytes 0)) ≤ 146 = line slot n (nthEvent n bytes 0) in
     let m : length (linesOf bytes (slot + 1) ns) ≤ 146 * length ns = lines bytes (slot + 1) ns in
     by-test (eqb n 0) (λ q. rw q (omega arith)) (λ q. rw q (rw length-append (omega arith)))
 

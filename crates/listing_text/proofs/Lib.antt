@@ -1,6 +1,5 @@
 pub mod Onto
 pub mod Decimal
-pub mod Lookup
 pub mod SlotLines
 pub mod Judgement
 pub mod Lengths

@@ -1,14 +1,15 @@
 -- The lines put one after another are those of the slots.
-use Prim.Native.Nat.{ℕ, suc, _+_, _-_, _<_}
+use Prim.Native.Nat.{ℕ, suc, _+_, _<_}
 use native.Mathlib.Numerals.{add-one}
 use mathlib.Core.Path.{_≡_, refl, sym, ap, _∙_}
 use mathlib.Core.List.{List, [], _∷_, _++_}
 use lib.ListN.{length, getD, drop}
 use lib.Seq.{drop-cons, drop-length}
 use borrow.Author.Tests.{eq-eqb, ne-eqb}
+use Rattle.log.specs.Number.{nthEvent}
 use Rattle.listing_text.specs.declared.Page.{Page}
 use Rattle.listing_text.specs.Text.{slotLine}
-use Rattle.listing_text.specs.Page.{onto, eventFrom, linesOf}
+use Rattle.listing_text.specs.Page.{onto, linesOf}
 use Rattle.listing_text.proofs.Onto.{onto-append, onto-none}
 
 module _ (bytes : List ℕ) (slot n : ℕ) (ns : List ℕ) where
@@ -16,7 +17,7 @@ module _ (bytes : List ℕ) (slot n : ℕ) (ns : List ℕ) where
   unfolding linesOf
   no-line z = rw (eq-eqb n 0 z) refl
 
-  pub a-line : (n ≡ 0 → ⊥) → linesOf bytes slot (n ∷ ns) ≡ slotLine slot n (eventFrom (n - 1) bytes 0) ++ linesOf bytes (slot + 1) ns
+  pub a-line : (n ≡ 0 → ⊥) → linesOf bytes slot (n ∷ ns) ≡ slotLine slot n (nthEvent n bytes 0) ++ linesOf bytes (slot + 1) ns
   unfolding linesOf
   a-line z = rw (ne-eqb n 0 z) refl
 
@@ -35,14 +36,14 @@ module _ (bytes numbers : List ℕ) (start p : Page) (j : ℕ) (h : onto p (line
         none : linesOf bytes (j + 1) (drop j numbers) ≡ []
         none = rw (drop-cons numbers j 0 low) (no-line bytes (j + 1) (getD numbers j 0) (drop (suc j) numbers) z)
 
-    pub one-line : (q : Page) → (getD numbers j 0 ≡ 0 → ⊥) → q ≡ onto p (slotLine (j + 1) (getD numbers j 0) (eventFrom (getD numbers j 0 - 1) bytes 0))
+    pub one-line : (q : Page) → (getD numbers j 0 ≡ 0 → ⊥) → q ≡ onto p (slotLine (j + 1) (getD numbers j 0) (nthEvent (getD numbers j 0) bytes 0))
         → onto q (linesOf bytes (j + 1 + 1) (drop (j + 1) numbers)) ≡ onto start (linesOf bytes 1 numbers)
     one-line q z e =
         ap (λ (r : Page). onto r rest) e ∙ onto-append p line rest
         ∙ ap (onto p) (sym (a-line bytes (j + 1) (getD numbers j 0) (drop (j + 1) numbers) z) ∙ ap (linesOf bytes (j + 1)) (sym split)) ∙ h
       where
         line : List ℕ
-        line = slotLine (j + 1) (getD numbers j 0) (eventFrom (getD numbers j 0 - 1) bytes 0)
+        line = slotLine (j + 1) (getD numbers j 0) (nthEvent (getD numbers j 0) bytes 0)
 
         rest : List ℕ
         rest = linesOf bytes (j + 1 + 1) (drop (j + 1) numbers)

@@ -1,5 +1,4 @@
 // The listing: a pattern and a log judged, and the verdict as text in a lent buffer.
-use command::Decoded;
 use event::Event;
 use event::Operation;
 use height::Metres;
@@ -13,7 +12,7 @@ ghost use mathlib.Core.List.{List, []};
 ghost use lib.ListN.{length, take};
 ghost use Rattle.writer.specs.Writing.{writing, writtenIs, bufferAfter};
 ghost use Rattle.listing_text.specs.Text.{ascii, figures as figuresOf, decimal, metresText, heightText, operationText, slotLine, refusalLine, matchLine};
-ghost use Rattle.listing_text.specs.Page.{blank, with, onto, eventFrom, linesOf, textOf};
+ghost use Rattle.listing_text.specs.Page.{blank, with, onto, linesOf, textOf};
 ghost use Rattle.listing_text.specs.Listing.{enough as room, Listing, ListedIn};
 
 // The longest pattern or log that is listed, in bytes.
@@ -93,32 +92,10 @@ fn slot_lines(from: Page, log: &[u8], numbers: [u16; event::SLOTS]) -> Page
         if n == 0 {
             return p;
         }
-        let e = event_after(log, n as usize - 1);
+        let e = log::event_numbered(log, n as usize);
         p = p.slot_line(j + 1, n as usize, e);
     }
     p
-}
-
-// The event of the command after the first n.
-fn event_after(log: &[u8], n: usize) -> Event
-    ensures { λ r. ⌜ r ≡ eventFrom n (now (log .entry)) 0 ⌝ }
-{
-    let mut left = n;
-    let mut at: usize = 0;
-    loop {
-        let step = command::decode(log, at, true);
-        let Decoded::Command { event, next } = step else {
-            return Event {
-                thread: 0,
-                operation: Operation::Mark { mark: 0 },
-            };
-        };
-        if left == 0 {
-            return event;
-        }
-        left -= 1;
-        at = next;
-    }
 }
 
 fn empty() -> Page

@@ -1,2 +1,4 @@
 pub mod Whole
-pub mod Written
+pub mod Step
+pub mod Calls
+pub mod Number

@@ -1,6 +1,6 @@
 // The order query: whether one event of a log comes before another or is it.
 use clock::Stamp;
-use command::Decoded;
+use log::Stepped;
 ghost use mathlib.Core.Path.{_≡_};
 ghost use Rattle.order.specs.Query.{Answers, orderIs};
 ghost use Rattle.order.specs.Watching.{ownCount, met, judged, seen, answered};
@@ -37,20 +37,13 @@ pub fn query(log: &[u8], first: usize, second: usize) -> Order
     let mut taken: usize = 0;
     let mut at: usize = 0;
     loop {
-        let step = command::decode(log, at, true);
-        let Decoded::Command { event, next } = step else {
-            let Decoded::Refused { number, offset } = step else {
+        let found = log::step(log, at, &mut state, taken);
+        let Stepped::Event { event, next } = found else {
+            let Stepped::LogRefused { number, offset } = found else {
                 return watch.answer(taken);
             };
             return Order::LogRefused { number, offset };
         };
-        let k = rules::admit(&mut state, taken, event);
-        if k != 0 {
-            return Order::LogRefused {
-                number: k,
-                offset: at,
-            };
-        }
         taken += 1;
         let stamp = clock::advance(&mut clocks, event);
         watch = watch.see(taken, event.thread, stamp);

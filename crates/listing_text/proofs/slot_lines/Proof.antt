@@ -32,14 +32,11 @@ returns c =
     let l = c .before .before .loop in
     at-zero (c .before .before .before .before .args .log .now) (c .before .before .before .before .args .t3) _ (l .p) (l .j) (l .inv .1) (let n : length (c .before .before .before .before .args .t3) ≡ 5 = search needs in let u = c .before .loop-test .taken in omega arith) (c .if1 .taken)
 
-cast-event-after : tie.Need-cast-event-after Inv-loop μ-loop
-cast-event-after c = search needs
+cast-event-numbered : tie.Need-cast-event-numbered Inv-loop μ-loop
+cast-event-numbered c = search needs
 
-sub-event-after : tie.Need-sub-event-after Inv-loop μ-loop
-sub-event-after c = search needs
-
-event-after-requires : tie.Need-event-after-requires Inv-loop μ-loop
-event-after-requires c κs = search needs
+event-numbered-requires : tie.Need-event-numbered-requires Inv-loop μ-loop
+event-numbered-requires c κs = search needs
 
 add-slot-line : tie.Need-add-slot-line Inv-loop μ-loop
 add-slot-line c = search needs
@@ -60,7 +57,7 @@ loop-again : tie.Need-loop-again Inv-loop μ-loop
 loop-again c =
     let a = c .before .before .before .before .before .before .args in
     let l = c .before .before .before .before .loop in
-    let e = c .before .event-after .ensures in (
+    let e = c .before .event-numbered .ensures .0 in (
       omega arith,
       one-line (a .log .now) (a .t3) _ (l .p) (l .j) (l .inv .1) (let n : length (a .t3) ≡ 5 = search needs in let u = c .before .before .before .loop-test .taken in omega arith) (c .slot-line .result) (c .before .before .if1 .left)
           (c .slot-line .ensures ∙ ap (λ (x : Event). onto (l .p) (slotLine (l .j + 1) (getD (a .t3) (l .j) 0) x)) e),
@@ -81,9 +78,8 @@ slot-lines-spec =
     mul-n
     array-read-n
     returns
-    cast-event-after
-    sub-event-after
-    event-after-requires
+    cast-event-numbered
+    event-numbered-requires
     add-slot-line
     cast-slot-line
     slot-line-requires

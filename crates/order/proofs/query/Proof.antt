@@ -9,9 +9,9 @@ use Rattle.event.specs.Limits.{events}
 use Rattle.event.specs.Slots.{slotOf}
 use Rattle.event.proofs.InRange.{from-range}
 use Rattle.rules.proofs.StateLaws.{clear}
-use Rattle.command.specs.Reading.{decodedIs}
-use Rattle.command.proofs.Ends.{the-end}
-use Rattle.log.proofs.LogWalk.{Going, start, at-end, broken, turned-away, room, one-more, shorter}
+use Rattle.log.specs.Step.{steppedIs}
+use Rattle.log.proofs.Steps.{the-end}
+use Rattle.log.proofs.LogWalk.{Going, start, at-end, broken, none, room, one-more, shorter}
 use Rattle.clock.specs.Holds.{Holds}
 use Rattle.order.specs.Query.{refused-log}
 use Rattle.order.proofs.Watched.{Watched, nothing-yet, answers, next}
@@ -34,56 +34,36 @@ fresh-requires-2 c κs = search needs
 loop-holds : tie.Need-loop-holds Inv-loop μ-loop
 loop-holds c = ([], start (c .before .before .before .args .log .now) (c .before .fresh .result) (c .before .fresh .ensures), c .fresh2 .ensures .1, nothing-yet (c .before .before .before .args .first) (c .before .before .before .args .second))
 
-decode-requires : tie.Need-decode-requires Inv-loop μ-loop
-decode-requires c κs = search needs
+step-requires : tie.Need-step-requires Inv-loop μ-loop
+step-requires c κs = search needs
 
-enum-known-step : tie.Need-enum-known-step Inv-loop μ-loop
-enum-known-step c = search needs
+enum-known-found : tie.Need-enum-known-found Inv-loop μ-loop
+enum-known-found c = search needs
 
-enum-known-step-2 : tie.Need-enum-known-step-2 Inv-loop μ-loop
-enum-known-step-2 c = search needs
+enum-known-found-2 : tie.Need-enum-known-found-2 Inv-loop μ-loop
+enum-known-found-2 c = search needs
 
 answer-requires : tie.Need-answer-requires Inv-loop μ-loop
 answer-requires c κs = search needs
 
 returns : tie.Need-returns Inv-loop μ-loop
 returns c =
-    let args = c .before .before .before .before .before .before .before .before .args in
-    let bytes = args .log .now in
-    let l = c .before .before .before .before .loop in
-    let q = sym (c .before .before .before .decode .ensures) ∙ the-end (c .before .before .before .decode .result) (c .before .before .match .keys2) (c .before .match2 .keys2) in
+    let args = c .before .before .before .before .before .before .before .before .before .args in
+    let l = c .before .before .before .before .before .loop in
+    let s = c .before .before .before .step in
+    let q = the-end (s .result) (c .before .before .match .keys2) (c .before .match2 .keys2) in
     rw (c .answer .ensures)
-    (answers bytes (reverse (l .inv .0)) (args .first) (args .second) (l .watch) (l .inv .3)
-    (at-end bytes (l .state) (l .taken) (l .at) (l .inv .0) (l .inv .1) q) (l .taken) (l .inv .1 .count ∙ sym (length-reverse (l .inv .0))))
+    (answers (args .log .now) (reverse (l .inv .0)) (args .first) (args .second) (l .watch) (l .inv .3)
+    (at-end (l .inv .1) (s .ensures .1 .1) q) (l .taken) (l .inv .1 .count ∙ sym (length-reverse (l .inv .0))))
 
 returns-2 : tie.Need-returns-2 Inv-loop μ-loop
 returns-2 c =
-    let bytes = c .before .before .before .before .before .before .before .before .before .args .log .now in
-    let l = c .before .before .before .before .before .loop in
-    let s = c .before .step2 .given in
-    let q = sym (c .before .before .before .before .decode .ensures) ∙ ap decodedIs (s .1) in
-    refused-log (sym (broken bytes (l .state) (l .taken) (l .at) (l .inv .0) (l .inv .1) (s .0 .0) (s .0 .1 .0) q))
-
-admit-requires : tie.Need-admit-requires Inv-loop μ-loop
-admit-requires c κs = search needs
-
-returns-3 : tie.Need-returns-3 Inv-loop μ-loop
-returns-3 c =
-    let bytes = c .before .before .before .before .before .before .before .before .before .before .before .args .log .now in
-    let l = c .before .before .before .before .before .before .before .loop in
-    let s = c .before .before .before .before .step .given in
-    let q = sym (c .before .before .before .before .before .before .decode .ensures) ∙ ap decodedIs (s .1) in
-    let h = c .before .admit .ensures .1 .1 (l .inv .0) (l .inv .1 .holds) (l .inv .1 .count) in
-    refused-log (sym (turned-away bytes (l .state) (l .taken) (l .at) (l .inv .0) (l .inv .1) (s .0 .0) (s .0 .1 .0) q _ (h .0) (c .if1 .taken)))
+    refused-log (sym (broken (c .before .before .before .before .before .before .loop .inv .1) (c .before .before .before .before .step .ensures .1 .1) _ _ (ap steppedIs (c .before .found2 .given .1))))
 
 add-taken : tie.Need-add-taken Inv-loop μ-loop
 add-taken c =
-    let bytes = c .before .before .before .before .before .before .before .before .before .before .before .args .log .now in
-    let l = c .before .before .before .before .before .before .before .loop in
-    let s = c .before .before .before .before .step .given in
-    let q = sym (c .before .before .before .before .before .before .decode .ensures) ∙ ap decodedIs (s .1) in
-    let h = c .before .admit .ensures .1 .1 (l .inv .0) (l .inv .1 .holds) (l .inv .1 .count) in
-    let r : l .taken < events = room bytes (l .state) (l .taken) (l .at) (l .inv .0) (l .inv .1) (s .0 .0) (s .0 .1 .0) q (sym (h .0) ∙ c .if1 .left) in omega arith
+    let r = room (c .before .before .before .before .before .loop .inv .1) (c .before .before .before .step .ensures .1 .1) _ _ (ap steppedIs (c .before .found .given .1)) in
+    omega arith
 
 advance-requires : tie.Need-advance-requires Inv-loop μ-loop
 advance-requires c κs = search needs
@@ -93,30 +73,24 @@ see-requires c κs = search needs
 
 loop-less : tie.Need-loop-less Inv-loop μ-loop
 loop-less c =
-    let bytes = c .before .before .before .before .before .before .before .before .before .before .before .before .before .before .args .log .now in
-    let l = c .before .before .before .before .before .before .before .before .before .before .loop in
-    let s = c .before .before .before .before .before .before .before .step .given in
-    let q = sym (c .before .before .before .before .before .before .before .before .before .decode .ensures) ∙ ap decodedIs (s .1) in
-    let h = c .before .before .before .before .admit .ensures .1 .1 (l .inv .0) (l .inv .1 .holds) (l .inv .1 .count) in
-    shorter bytes (l .state) (l .taken) (l .at) (l .inv .0) (l .inv .1) (s .0 .0) (s .0 .1 .0) q (sym (h .0) ∙ c .before .before .before .if1 .left)
+    let l = c .before .before .before .before .before .before .before .before .loop in
+    shorter (l .inv .1) (c .before .before .before .before .before .before .step .ensures .1 .1) _ _ (ap steppedIs (c .before .before .before .before .found .given .1))
 
 loop-again : tie.Need-loop-again Inv-loop μ-loop
 loop-again c =
-    let bytes = c .before .before .before .before .before .before .before .before .before .before .before .before .before .before .args .log .now in
-    let l = c .before .before .before .before .before .before .before .before .before .before .loop in
-    let s = c .before .before .before .before .before .before .before .step .given in
-    let q = sym (c .before .before .before .before .before .before .before .before .before .decode .ensures) ∙ ap decodedIs (s .1) in
-    let h = c .before .before .before .before .admit .ensures .1 .1 (l .inv .0) (l .inv .1 .holds) (l .inv .1 .count) in
-    let args = c .before .before .before .before .before .before .before .before .before .before .before .before .before .before .args in
-    let e = s .0 .0 in
+    let args = c .before .before .before .before .before .before .before .before .before .before .before .before .args in
+    let l = c .before .before .before .before .before .before .before .before .loop in
     let past = l .inv .0 in
-    let z = sym (h .0) ∙ c .before .before .before .if1 .left in
-    let k = clear past e z .range in
-    let r : l .taken < events = room bytes (l .state) (l .taken) (l .at) (l .inv .0) (l .inv .1) (s .0 .0) (s .0 .1 .0) q z in
+    let f = c .before .before .before .before .found .given in
+    let e = f .0 .0 in
+    let h = c .before .before .before .before .before .before .step .ensures .1 .1 in
+    let q = ap steppedIs (f .1) in
+    let k = clear past e (none (l .inv .1) h _ _ q) .range in
+    let r : l .taken < events = room (l .inv .1) h _ _ q in
     let n : l .taken ≡ length (reverse past) = l .inv .1 .count ∙ sym (length-reverse past) in
     let arrived = c .before .advance .ensures .1 .1 (reverse past) (l .inv .2) (omega arith) (from-range (slotOf e) k) in
     let u = next past (args .first) (args .second) (l .taken) (l .watch) e _ _ (l .inv .1 .count) (k .thread) (l .inv .3) arrived in
-    (e ∷ past, one-more bytes (l .state) (l .taken) (l .at) (l .inv .0) (l .inv .1) (s .0 .0) (s .0 .1 .0) q z (c .before .before .before .before .admit .last .0) (h .1), u .0, rw (c .see .ensures) (u .1))
+    (e ∷ past, one-more (l .inv .1) h _ _ q, u .0, rw (c .see .ensures) (u .1))
 
 pub query-spec : {M : Type 1} → statement M
 query-spec =
@@ -127,14 +101,12 @@ query-spec =
     fresh-requires
     fresh-requires-2
     loop-holds
-    decode-requires
-    enum-known-step
-    enum-known-step-2
+    step-requires
+    enum-known-found
+    enum-known-found-2
     answer-requires
     returns
     returns-2
-    admit-requires
-    returns-3
     add-taken
     advance-requires
     see-requires
