@@ -121,7 +121,7 @@ every-history bytes opened o events =
 
 swapped-heights : {xs ys : List Event} → Swap dependent xs ys → Heights xs → Heights ys
 unfolding Heights
-swapped-heights (here i) h = (h .1 .0, h .0, h .1 .1)
+swapped-heights (here i) h = (h .1 .0, (h .0, h .1 .1))
 swapped-heights (later s) h = (h .0, swapped-heights s (h .1))
 
 reached-heights : {xs ys : List Event} → Reaches xs ys → Heights xs → Heights ys

@@ -1,8 +1,8 @@
 // Sessions that take events one by one, and runs over a whole log: whether some order of the events holds the pattern.
-use command::Decoded;
 use event::Event;
 use log::Pattern;
 use log::PatternAnswer;
+use log::Stepped;
 ghost use mathlib.Core.Path.{_≡_};
 ghost use mathlib.Core.Bool.{cond};
 ghost use mathlib.Core.List.{List, reverse};
@@ -152,7 +152,7 @@ pub fn hand(
     ensures number { λ r. ⌜ r ≡ refusalBy (now (state .entry)) (now (taken .entry)) e ⌝ }
     ensures after { λ r. ⌜ record { state = now (state .exit); clocks = now (clocks .exit); table = now (table .exit); taken = now (taken .exit); count = now (count .exit) } ≡ keptAfter acting fit size (record { state = now (state .entry); clocks = now (clocks .entry); table = now (table .entry); taken = now (taken .entry); count = now (count .entry) }) e ⌝ }
 {
-    let before = wide(*taken);
+    let before = *taken as usize;
     let k = rules::admit(state, before, e);
     if k != 0 {
         return k;
@@ -211,18 +211,14 @@ fn run_on(p: Pattern, log: &[u8]) -> Judged
     let keys = table::keys(slots);
     let mut at: usize = 0;
     loop {
-        let step = command::decode(log, at, true);
-        let Decoded::Command { event, next } = step else {
-            let Decoded::Refused { number, offset } = step else {
+        let taken = z.taken as usize;
+        let found = log::step(log, at, &mut z.state, taken);
+        let Stepped::Event { event, next } = found else {
+            let Stepped::LogRefused { number, offset } = found else {
                 return outcome_of(z.verdict());
             };
             return log_refused(number, offset);
         };
-        let taken = wide(z.taken);
-        let k = rules::admit(&mut z.state, taken, event);
-        if k != 0 {
-            return log_refused(k, at);
-        }
         let n = (taken + 1) as u16;
         z.taken = n;
         let here = at;
@@ -236,8 +232,8 @@ fn run_on(p: Pattern, log: &[u8]) -> Judged
         }
         let fit = event::fitting(slots, event);
         table::offer(&mut z.table, acting, fit, size, event.thread, stamp, n);
-        let found = table::found(&z.table, size);
-        z.count = count_if(found, n);
+        let matched = table::found(&z.table, size);
+        z.count = count_if(matched, n);
     }
 }
 

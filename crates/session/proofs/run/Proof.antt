@@ -27,7 +27,7 @@ returns-2 c = let bytes = c .before .before .before .before .before .before .bef
     let is-bytes : Bytes bytes = λ k. c .before .before .before .before .before .before .shared-slice-known .given k .fits in
     let read = c .before .before .before .before .read-pattern .ensures in
     let told = c .before .enum-told .given .1 in
-    accepted-pattern bytes _ is-bytes _ (sym (ap patternAnswerIs told) ∙ read .answer) _ (λ ss g p. c .run-on .ensures ss g (read .pattern ∙ p))
+    accepted-pattern bytes _ is-bytes _ (sym (ap patternAnswerIs told) ∙ read .answer) (c .run-on .result) (λ ss g p. c .run-on .ensures ss g (read .pattern ∙ p))
 
 pub run-spec : {M : Type 1} → statement M
 run-spec =

@@ -1,55 +1,115 @@
-use Rattle.session.proofs.Running.{Running, started, ended, broke, turned-away, goes-on as still}
-use Rattle.session.proofs.Steps.{room, matched-is, searched-is, idle-is}
-use Rattle.log.specs.Whole.{GoodPattern, patternOf}
-use Rattle.command.proofs.Inversion.{goes-on}
-use Rattle.command.proofs.Ends.{the-end}
-use Rattle.command.specs.Reading.{decodedIs}
+use Rattle.event.specs.declared.Event.{Event}
 use Rattle.event.specs.declared.Slot.{Slot}
-use borrow.Author.Needs.{needs}
-use lib.ListN.{length}
-use mathlib.Core.List.{List}
-use mathlib.Core.Bool.{true}
-use mathlib.Core.Path.{_≡_, sym, ap, ap₂, _∙_}
-use native.Mathlib.Omega.{arith}
-use Prim.Native.Nat.{ℕ, _+_, _-_}
+use Rattle.event.specs.Limits.{events, slots as slotLimit}
+use Rattle.event.specs.Slots.{fitting, fits, noSlot, threadsOf}
+use Rattle.event.proofs.Filled.{map-at}
+use Rattle.command.specs.Reading.{command, closed}
+use Rattle.command.proofs.Inversion.{goes-on as onward}
+use Rattle.log.specs.Whole.{GoodPattern, patternOf}
+use Rattle.log.specs.Step.{steppedIs}
+use Rattle.log.proofs.Steps.{the-end}
 use Rattle.table.specs.Keys.{KeysOf}
 use Rattle.table.specs.Table.{offered, foundIn}
+use Rattle.session.specs.declared.Session.{Session}
+use Rattle.session.specs.Model.{keptOf, advanced}
 use Rattle.session.proofs.Described.{no-row}
+use Rattle.session.proofs.Steps.{room, kept-matched, kept-searched, kept-idle, advanced-is}
+use Rattle.session.proofs.Running.{Running, started, TakenAt, taken-at, ended, broke, goes-on}
+use lib.ListN.{length, getD}
+use mathlib.Core.List.{List, [], _∷_}
+use mathlib.Core.Bool.{Bool, true, false}
+use mathlib.Core.Path.{_≡_, refl, sym, ap, _∙_}
+use native.Mathlib.Omega.{arith}
+use Prim.Native.Nat.{ℕ, zero, suc, _+_, _-_, _≤_, _<_}
+use borrow.Author.Needs.{needs}
 use borrow.Author.Tests.{not-true}
 use Rattle.session.proofs.run_on.Statement.{statement}
 use Rattle.session.proofs.run_on.Tie as tie
 
+record Kept (log : List ℕ) (p₀ z : Session) (slots : List Slot) (size : ℕ) (acting keys : List ℕ) (at : ℕ) : Type 0 where
+  few : z .taken ≤ events
+  slots-are : slots ≡ z .pattern .slots
+  size-is : size ≡ z .pattern .size
+  acting-is : acting ≡ threadsOf slots
+  keys-are : KeysOf slots keys
+  running : (ss : List Slot) → GoodPattern ss → p₀ .pattern ≡ patternOf ss → Running ss log z at
+
 abbrev Inv-loop : tie.InvT-loop
-Inv-loop log z₀ slots size keys at₀ z at =
-    (slots ≡ z .pattern .slots) × (size ≡ z .pattern .size) × KeysOf slots keys × ((ss : List Slot) → GoodPattern ss → z₀ .pattern ≡ patternOf ss → Running ss log z at)
+Inv-loop log z₀ slots size acting keys at₀ z at = Kept log z₀ z slots size acting keys at
 
 abbrev μ-loop : tie.MeasureT-loop
-μ-loop log z₀ slots size keys at₀ z at = length log - at
+μ-loop log z₀ slots size acting keys at₀ z at = length log - at
+
+-- ---- where an event was read
+
+abbrev Read : Type 0
+Read = tie.After-known-told Inv-loop μ-loop
+
+is-event : (t : Read) → steppedIs (t .before .before .before .step .result) ≡ command (t .before .found .given .0 .0) (t .before .found .given .0 .1 .0)
+is-event t = ap steppedIs (t .before .found .given .1)
+
+taken-there : (t : Read)
+    → TakenAt (t .before .before .before .before .before .before .before .before .before .before .before .args .log .now) (t .before .before .before .before .before .loop .z .state) (t .before .before .before .before .before .loop .z .taken) (t .before .before .before .before .before .loop .at)
+    (t .before .found .given .0 .0) (t .before .found .given .0 .1 .0) (t .before .before .before .step .last .1 .1 .0)
+taken-there t =
+    let s = t .before .before .before .step in
+    let l = t .before .before .before .before .before .loop in
+    taken-at _ (l .z .state) (l .z .taken) (l .at) _ _ _ (steppedIs (s .result)) (s .ensures .0) (s .ensures .1 .0) (is-event t)
+
+few-more : (t : Read) → t .before .before .before .before .before .loop .z .taken < events
+few-more t = let l = t .before .before .before .before .before .loop .z in room (l .state) (l .taken) _ (taken-there t .none)
+
+less : (t : Read) → length (t .before .before .before .before .before .before .before .before .before .before .before .args .log .now) - t .before .found .given .0 .1 .0 < length (t .before .before .before .before .before .before .before .before .before .before .before .args .log .now) - t .before .before .before .before .before .loop .at
+less t = let m = onward true _ (t .before .before .before .before .before .loop .at) _ _ (taken-there t .decoded) in omega arith
+
+-- the session once the event is taken
+again : (t : Read) (after : Session)
+    → ((ss : List Slot) → GoodPattern ss → t .before .before .before .before .before .before .before .before .before .fresh .result .pattern ≡ patternOf ss → after ≡ advanced (t .before .before .before .before .before .loop .z) (t .before .found .given .0 .0)) → after .pattern ≡ t .before .before .before .before .before .loop .z .pattern
+    → after .state ≡ t .before .before .before .step .last .1 .1 .0 → after .taken ≡ t .before .before .before .before .before .loop .z .taken + 1
+    → Kept (t .before .before .before .before .before .before .before .before .before .before .before .args .log .now) (t .before .before .before .before .before .before .before .before .before .fresh .result) after (t .before .before .before .before .before .before .before .before .before .before .before .args .p .slots) (t .before .before .before .before .before .before .before .before .before .before .before .args .p .size) (t .before .before .before .before .before .before .before .threads-of .result) (t .before .before .before .before .before .before .keys .result) (t .before .found .given .0 .1 .0)
+again t after p q s n =
+    let l = t .before .before .before .before .before .loop in
+    record {
+      few = let m = few-more t in omega arith;
+      slots-are = l .inv .slots-are ∙ ap (λ x. x .slots) (sym q);
+      size-is = l .inv .size-is ∙ ap (λ x. x .size) (sym q);
+      acting-is = l .inv .acting-is;
+      keys-are = l .inv .keys-are;
+      running = λ ss g r. goes-on ss (l .z) (l .inv .running ss g r) (t .before .before .before .step .ensures .1 .1) _ _ (is-event t) after (p ss g r) s n;
+    }
 
 fresh-requires : tie.Need-fresh-requires Inv-loop μ-loop
 fresh-requires c κs = search needs
+
+threads-of-requires : tie.Need-threads-of-requires Inv-loop μ-loop
+threads-of-requires c κs = search needs
 
 keys-requires : tie.Need-keys-requires Inv-loop μ-loop
 keys-requires c κs = search needs
 
 loop-holds : tie.Need-loop-holds Inv-loop μ-loop
 loop-holds c =
-    let z = c .before .before .fresh .result in
-    let e = c .before .before .fresh .ensures in (
-      sym (ap (λ x. x .pattern .slots) e),
-      sym (ap (λ x. x .pattern .size) e),
-      c .keys .ensures,
-      λ ss g p. started ss (c .before .before .before .before .args .log .now) z _ g e p,
-    )
+    let e = c .before .before .before .fresh .ensures in
+    record {
+      few = rw e (omega arith);
+      slots-are = sym (ap (λ x. x .pattern .slots) e);
+      size-is = sym (ap (λ x. x .pattern .size) e);
+      acting-is = c .before .threads-of .ensures;
+      keys-are = c .keys .ensures;
+      running = λ ss g p. started ss _ (c .before .before .before .fresh .result) _ g e p;
+    }
 
-decode-requires : tie.Need-decode-requires Inv-loop μ-loop
-decode-requires c κs = search needs
+cast-taken : tie.Need-cast-taken Inv-loop μ-loop
+cast-taken c = let l = c .loop .inv .few in omega arith
 
-enum-known-step : tie.Need-enum-known-step Inv-loop μ-loop
-enum-known-step c = search needs
+step-requires : tie.Need-step-requires Inv-loop μ-loop
+step-requires c κs = search needs
 
-enum-known-step-2 : tie.Need-enum-known-step-2 Inv-loop μ-loop
-enum-known-step-2 c = search needs
+enum-known-found : tie.Need-enum-known-found Inv-loop μ-loop
+enum-known-found c = search needs
+
+enum-known-found-2 : tie.Need-enum-known-found-2 Inv-loop μ-loop
+enum-known-found-2 c = search needs
 
 verdict-requires : tie.Need-verdict-requires Inv-loop μ-loop
 verdict-requires c κs = search needs
@@ -59,63 +119,35 @@ outcome-of-requires c κs = search needs
 
 returns : tie.Need-returns Inv-loop μ-loop
 returns c =
-    let l = c .before .before .before .before .before .loop in
-    let q = sym (c .before .before .before .before .decode .ensures) ∙ the-end (c .before .before .before .before .decode .result) (c .before .before .before .match .keys2) (c .before .before .match2 .keys2) in
-    λ ss g p. rw (c .outcome-of .ensures) (ended ss (c .before .before .before .before .before .before .before .before .before .before .args .log .now) (l .z) (l .at) (l .inv .3 ss g (ap (λ x. x .pattern) (c .before .before .before .before .before .before .before .before .fresh .ensures) ∙ p)) q _ (c .before .verdict .ensures .0))
+    let l = c .before .before .before .before .before .before .loop in
+    let s = c .before .before .before .before .step in
+    let q = the-end (s .result) (c .before .before .before .match .keys2) (c .before .before .match2 .keys2) in
+    λ ss g p. rw (c .outcome-of .ensures)
+    (ended ss (l .z) (l .inv .running ss g (ap (λ x. x .pattern) (c .before .before .before .before .before .before .before .before .before .before .fresh .ensures) ∙ p)) (s .ensures .1 .1) q _ (c .before .verdict .ensures .0))
 
 log-refused-requires : tie.Need-log-refused-requires Inv-loop μ-loop
 log-refused-requires c κs = search needs
 
 returns-2 : tie.Need-returns-2 Inv-loop μ-loop
 returns-2 c =
-    let bytes = c .before .before .before .before .before .before .before .before .before .before .before .args .log .now in
-    let l = c .before .before .before .before .before .before .loop in
-    let z = l .z in
-    let s = c .before .before .step2 .given in
-    let q = sym (c .before .before .before .before .before .decode .ensures) ∙ ap decodedIs (s .1) in
-    λ ss g p. rw (c .log-refused .ensures) (broke ss bytes z (l .at) (l .inv .3 ss g (ap (λ x. x .pattern) (c .before .before .before .before .before .before .before .before .before .fresh .ensures) ∙ p)) (s .0 .0) (s .0 .1 .0) q)
-
-admit-requires : tie.Need-admit-requires Inv-loop μ-loop
-admit-requires c κs = search needs
-
-log-refused-requires-2 : tie.Need-log-refused-requires-2 Inv-loop μ-loop
-log-refused-requires-2 c κs = search needs
-
-returns-3 : tie.Need-returns-3 Inv-loop μ-loop
-returns-3 c =
-    let bytes = c .before .before .before .before .before .before .before .before .before .before .before .before .before .args .log .now in
-    let l = c .before .before .before .before .before .before .before .before .loop in
-    let z = l .z in
-    let s = c .before .before .before .before .before .step .given in
-    let q = sym (c .before .before .before .before .before .before .before .decode .ensures) ∙ ap decodedIs (s .1) in
-    λ ss g p. rw (c .log-refused2 .ensures) (turned-away ss bytes z (l .at) (l .inv .3 ss g (ap (λ x. x .pattern) (c .before .before .before .before .before .before .before .before .before .before .before .fresh .ensures) ∙ p)) (s .0 .0) (s .0 .1 .0) q _ (c .before .before .admit .ensures .0) (c .before .if1 .taken))
+    let l = c .before .before .before .before .before .before .before .loop in
+    λ ss g p. rw (c .log-refused .ensures)
+    (broke ss (l .z) (l .inv .running ss g (ap (λ x. x .pattern) (c .before .before .before .before .before .before .before .before .before .before .before .fresh .ensures) ∙ p)) (c .before .before .before .before .before .step .ensures .1 .1) _ _ (ap steppedIs (c .before .before .found2 .given .1)))
 
 add-n : tie.Need-add-n Inv-loop μ-loop
-add-n c =
-    let z = c .before .before .before .before .before .before .before .loop .z in
-    let r = room (z .state) (z .taken) (c .before .before .before .before .step .given .0 .0) (sym (c .before .admit .ensures .0) ∙ c .if1 .left) in
-    omega arith
+add-n c = let m = few-more c in omega arith
+
+cast-n : tie.Need-cast-n Inv-loop μ-loop
+cast-n c = let m = few-more c in omega arith
 
 loop-less : tie.Need-loop-less Inv-loop μ-loop
-loop-less c =
-    let bytes = c .before .before .before .before .before .before .before .before .before .before .before .before .before .args .log .now in
-    let l = c .before .before .before .before .before .before .before .before .loop in
-    let z = l .z in
-    let s = c .before .before .before .before .before .step .given in
-    let q = sym (c .before .before .before .before .before .before .before .decode .ensures) ∙ ap decodedIs (s .1) in
-    let m = goes-on true bytes (l .at) (s .0 .0) (s .0 .1 .0) q in
-    omega arith
+loop-less c = less (c .before)
 
 loop-again : tie.Need-loop-again Inv-loop μ-loop
 loop-again c =
-    let bytes = c .before .before .before .before .before .before .before .before .before .before .before .before .before .args .log .now in
-    let l = c .before .before .before .before .before .before .before .before .loop in
-    let z = l .z in
-    let s = c .before .before .before .before .before .step .given in
-    let q = sym (c .before .before .before .before .before .before .before .decode .ensures) ∙ ap decodedIs (s .1) in
-    let r = c .before .before .admit .ensures in
-    let e = matched-is z (s .0 .0) _ (r .1 .0) (c .if2 .taken) in
-    (l .inv .0, l .inv .1, l .inv .2, λ ss g p. still ss bytes z (l .at) (l .inv .3 ss g p) (s .0 .0) (s .0 .1 .0) q (sym (r .0) ∙ c .before .if1 .left) _ e)
+    let t = c .before in
+    let z = t .before .before .before .before .before .loop .z in
+    again t _ (λ ss g r. advanced-is z _ _ (kept-matched _ _ _ (keptOf z) _ _ (taken-there t .settled) (c .if1 .taken))) refl refl refl
 
 advance-requires : tie.Need-advance-requires Inv-loop μ-loop
 advance-requires c κs = search needs
@@ -127,39 +159,31 @@ wants-requires : tie.Need-wants-requires Inv-loop μ-loop
 wants-requires c κs = search needs
 
 loop-less-2 : tie.Need-loop-less-2 Inv-loop μ-loop
-loop-less-2 c =
-    let bytes = c .before .before .before .before .before .before .before .before .before .before .before .before .before .before .before .before .before .before .args .log .now in
-    let l = c .before .before .before .before .before .before .before .before .before .before .before .before .before .loop in
-    let z = l .z in
-    let s = c .before .before .before .before .before .before .before .before .before .before .step .given in
-    let q = sym (c .before .before .before .before .before .before .before .before .before .before .before .before .decode .ensures) ∙ ap decodedIs (s .1) in
-    let m = goes-on true bytes (l .at) (s .0 .0) (s .0 .1 .0) q in
-    omega arith
+loop-less-2 c = less (c .before .before .before .before .before .before)
+
+-- an event that fits none of the first n slots is marked at none of them
+unfit : (slots : List Slot) (e : Event) (n : ℕ) → ((j : ℕ) → j < n → fits (getD slots j noSlot) e ≡ false) → (j : ℕ) → j < n → getD (fitting slots e) j false ≡ false
+unfolding fitting
+unfit [] e n none j l = refl
+unfit (s ∷ slots) e n none zero l = none 0 l
+unfit (s ∷ slots) e n none (suc j) l = unfit slots e (n - 1) (λ i u. none (suc i) (omega arith)) j (omega arith)
 
 loop-again-2 : tie.Need-loop-again-2 Inv-loop μ-loop
 loop-again-2 c =
-    let bytes = c .before .before .before .before .before .before .before .before .before .before .before .before .before .before .before .before .before .before .args .log .now in
-    let l = c .before .before .before .before .before .before .before .before .before .before .before .before .before .loop in
-    let z = l .z in
-    let s = c .before .before .before .before .before .before .before .before .before .before .step .given in
-    let q = sym (c .before .before .before .before .before .before .before .before .before .before .before .before .decode .ensures) ∙ ap decodedIs (s .1) in
-    let r = c .before .before .before .before .before .before .before .admit .ensures in
+    let t = c .before .before .before .before .before .before in
+    let l = t .before .before .before .before .before .loop in
+    let e : Event = t .before .found .given .0 .0 in
     let clocked = c .before .before .before .advance .ensures in
-    let idle = c .before .wants .ensures .1 _ (s .0 .0) (l .inv .2) (c .before .before .key-at .ensures .1 true (s .0 .0) (s .0 .1 .0) q) (not-true _ (c .if3 .taken)) in (
-      l .inv .0,
-      l .inv .1,
-      l .inv .2,
-      λ ss g p. still ss bytes z (l .at) (l .inv .3 ss g p) (s .0 .0) (s .0 .1 .0) q (sym (r .0) ∙ c .before .before .before .before .before .before .if1 .left) _
-          (idle-is z (s .0 .0) _ (r .1 .0) _ _ (c .before .before .before .before .before .if2 .left) (clocked .0) (clocked .1 .0)
-          (rw (l .inv .0) at (idle (z .table) (z .pattern .size) (c .before .before .before .advance .result) (z .taken + 1)))
-          (no-row ss _ z (l .inv .3 ss g p .described) (c .before .before .before .before .before .if2 .left))),
-    )
+    let searching = c .before .before .before .before .before .if1 .left in
+    let alone = c .before .wants .ensures .1 _ e (l .inv .keys-are) (c .before .before .key-at .ensures .1 true e _ (taken-there t .decoded)) (not-true _ (c .if2 .taken)) in
+    again t _
+    (λ ss g r. advanced-is (l .z) e _
+    (kept-idle _ _ _ (keptOf (l .z)) e _ (taken-there t .settled) _ _ searching (clocked .0) (clocked .1 .0)
+    (unfit (l .z .pattern .slots) e slotLimit (rw (l .inv .slots-are) at alone)) (no-row ss _ (l .z) (l .inv .running ss g r .described) searching)))
+    refl refl refl
 
-cast-offer : tie.Need-cast-offer Inv-loop μ-loop
-cast-offer c =
-    let z = c .before .before .before .before .before .before .before .before .before .before .before .before .before .before .loop .z in
-    let r = room (z .state) (z .taken) (c .before .before .before .before .before .before .before .before .before .before .before .step .given .0 .0) (sym (c .before .before .before .before .before .before .before .before .admit .ensures .0) ∙ c .before .before .before .before .before .before .before .if1 .left) in
-    omega arith
+fitting-requires : tie.Need-fitting-requires Inv-loop μ-loop
+fitting-requires c κs = search needs
 
 offer-requires : tie.Need-offer-requires Inv-loop μ-loop
 offer-requires c κs = search needs
@@ -171,29 +195,20 @@ count-if-requires : tie.Need-count-if-requires Inv-loop μ-loop
 count-if-requires c κs = search needs
 
 loop-less-3 : tie.Need-loop-less-3 Inv-loop μ-loop
-loop-less-3 c =
-    let bytes = c .before .before .before .before .before .before .before .before .before .before .before .before .before .before .before .before .before .before .before .before .before .before .before .before .args .log .now in
-    let l = c .before .before .before .before .before .before .before .before .before .before .before .before .before .before .before .before .before .before .before .loop in
-    let z = l .z in
-    let s = c .before .before .before .before .before .before .before .before .before .before .before .before .before .before .before .before .step .given in
-    let q = sym (c .before .before .before .before .before .before .before .before .before .before .before .before .before .before .before .before .before .before .decode .ensures) ∙ ap decodedIs (s .1) in
-    let m = goes-on true bytes (l .at) (s .0 .0) (s .0 .1 .0) q in
-    omega arith
+loop-less-3 c = less (c .before .before .before .before .before .before .before .before .before .before .before .before .before)
 
 loop-again-3 : tie.Need-loop-again-3 Inv-loop μ-loop
 loop-again-3 c =
-    let bytes = c .before .before .before .before .before .before .before .before .before .before .before .before .before .before .before .before .before .before .before .before .before .before .before .before .args .log .now in
-    let l = c .before .before .before .before .before .before .before .before .before .before .before .before .before .before .before .before .before .before .before .loop in
-    let z = l .z in
-    let s = c .before .before .before .before .before .before .before .before .before .before .before .before .before .before .before .before .step .given in
-    let q = sym (c .before .before .before .before .before .before .before .before .before .before .before .before .before .before .before .before .before .before .decode .ensures) ∙ ap decodedIs (s .1) in
-    let r = c .before .before .before .before .before .before .before .before .before .before .before .before .before .admit .ensures in
-    let clocked = c .before .before .before .before .before .before .before .before .before .advance .ensures in
-    let offer = c .before .before .before .before .offer in
-    let offered-is = offer .ensures .0 ∙ ap₂ (λ (x : List Slot) (y : ℕ). offered (z .table) x y (s .0 .0) (c .before .before .before .before .before .before .before .before .before .advance .result) (z .taken + 1)) (l .inv .0) (l .inv .1) in
-    let found-is = c .before .found .ensures .0 ∙ ap (foundIn (offer .last .0)) (l .inv .1) in
-    let e = searched-is z (s .0 .0) _ (r .1 .0) _ _ _ _ _ (c .before .before .before .before .before .before .before .before .before .before .before .if2 .left) (clocked .0) (clocked .1 .0) offered-is found-is (c .count-if .ensures) in
-    (l .inv .0, l .inv .1, l .inv .2, λ ss g p. still ss bytes z (l .at) (l .inv .3 ss g p) (s .0 .0) (s .0 .1 .0) q (sym (r .0) ∙ c .before .before .before .before .before .before .before .before .before .before .before .before .if1 .left) _ e)
+    let t = c .before .before .before .before .before .before .before .before .before .before .before .before .before in
+    let l = t .before .before .before .before .before .loop in
+    let e : Event = t .before .found .given .0 .0 in
+    let clocked = c .before .before .before .before .before .before .before .before .before .before .advance .ensures in
+    let offer = c .before .before .before .before .offer .ensures .0 in
+    again t _
+    (λ ss g r. advanced-is (l .z) e _
+    (kept-searched _ _ _ (keptOf (l .z)) e _ (taken-there t .settled) _ _ _ _ _ (c .before .before .before .before .before .before .before .before .before .before .before .before .if1 .left) (clocked .0) (clocked .1 .0)
+    (rw (c .before .before .before .before .before .before .fitting .ensures, l .inv .acting-is, l .inv .slots-are, l .inv .size-is) at offer) (rw (l .inv .size-is) at (c .before .found3 .ensures .0)) (c .count-if .ensures)))
+    refl refl refl
 
 pub run-on-spec : {M : Type 1} → statement M
 run-on-spec =
@@ -202,20 +217,20 @@ run-on-spec =
     Inv-loop
     μ-loop
     fresh-requires
+    threads-of-requires
     keys-requires
     loop-holds
-    decode-requires
-    enum-known-step
-    enum-known-step-2
+    cast-taken
+    step-requires
+    enum-known-found
+    enum-known-found-2
     verdict-requires
     outcome-of-requires
     returns
     log-refused-requires
     returns-2
-    admit-requires
-    log-refused-requires-2
-    returns-3
     add-n
+    cast-n
     loop-less
     loop-again
     advance-requires
@@ -223,7 +238,7 @@ run-on-spec =
     wants-requires
     loop-less-2
     loop-again-2
-    cast-offer
+    fitting-requires
     offer-requires
     found-requires
     count-if-requires

@@ -1,63 +1,33 @@
-use native.Mathlib.Omega.{arith}
-use mathlib.Core.Path.{sym, _∙_}
-use Rattle.session.proofs.Steps.{room, refused-is, matched-is, searched-is, taken-is, after}
+use mathlib.Core.Path.{ap, _∙_}
+use Rattle.session.specs.Model.{answerBy}
+use Rattle.session.proofs.Steps.{handed-is, after}
+use Prim.Native.Nat.{_-_}
+use mathlib.Core.Path.{ap, _∙_}
 use borrow.Author.Needs.{needs}
 use Rattle.session.proofs.Session.take.Statement.{statement}
 use Rattle.session.proofs.Session.take.Tie as tie
 
-admit-requires : tie.Need-admit-requires
-admit-requires c κs = search needs
+threads-of-requires : tie.Need-threads-of-requires
+threads-of-requires c κs = search needs
+
+fitting-requires : tie.Need-fitting-requires
+fitting-requires c κs = search needs
+
+hand-requires : tie.Need-hand-requires
+hand-requires c κs = search needs
+
+answer-by-requires : tie.Need-answer-by-requires
+answer-by-requires c κs = search needs
 
 returns : tie.Need-returns
-returns c = let s = c .before .before .before .args .t1 in
-    let e = c .before .before .before .args .e in
-    let r = c .before .admit .ensures in
-    after s e _ (refused-is s e _ (r .1 .0) _ (r .0) (c .if1 .taken))
-
-add-n : tie.Need-add-n
-add-n c = let l = room (c .before .before .before .args .t1 .state) (c .before .before .before .args .t1 .taken) (c .before .before .before .args .e) (sym (c .before .admit .ensures .0) ∙ c .if1 .left) in omega arith
-
-returns-2 : tie.Need-returns-2
-returns-2 c = let s = c .before .before .before .before .args .t1 in
-    let e = c .before .before .before .before .args .e in
-    let r = c .before .before .admit .ensures in
-    after s e _ (taken-is s _ e (sym (r .0) ∙ c .before .if1 .left) (matched-is s e _ (r .1 .0) (c .if2 .taken)))
-
-advance-requires : tie.Need-advance-requires
-advance-requires c κs = search needs
-
-cast-offer : tie.Need-cast-offer
-cast-offer c = let l = room (c .before .before .before .before .before .before .before .before .before .args .t1 .state) (c .before .before .before .before .before .before .before .before .before .args .t1 .taken) (c .before .before .before .before .before .before .before .before .before .args .e) (sym (c .before .before .before .before .before .before .before .admit .ensures .0) ∙ c .before .before .before .before .before .before .if1 .left) in omega arith
-
-offer-requires : tie.Need-offer-requires
-offer-requires c κs = search needs
-
-found-requires : tie.Need-found-requires
-found-requires c κs = search needs
-
-count-if-requires : tie.Need-count-if-requires
-count-if-requires c κs = search needs
-
-returns-3 : tie.Need-returns-3
-returns-3 c = let s = c .before .before .before .before .before .before .before .before .before .before .before .before .before .before .args .t1 in
-    let e = c .before .before .before .before .before .before .before .before .before .before .before .before .before .before .args .e in
-    let r = c .before .before .before .before .before .before .before .before .before .before .before .before .admit .ensures in
-    let clocked = c .before .before .before .before .before .before .advance .ensures in
-    after s e _
-    (taken-is s _ e (sym (r .0) ∙ c .before .before .before .before .before .before .before .before .before .before .before .if1 .left)
-    (searched-is s e _ (r .1 .0) _ _ _ _ _ (c .before .before .before .before .before .before .before .before .before .before .if2 .left) (clocked .0) (clocked .1 .0) (c .before .before .before .before .offer .ensures .0) (c .before .found .ensures .0) (c .count-if .ensures)))
+returns c =
+    let a = c .before .before .before .before .before .before .before .before .before .before .before .before .before .before .args in
+    let h = c .before .hand .ensures in
+    after (a .self) (a .e) _
+    (handed-is (a .self) (a .e) _ _ (c .answer-by .ensures ∙ ap answerBy (h .0))
+    (rw (c .before .before .before .before .before .before .before .before .threads-of .ensures, c .before .before .before .before .before .before .before .fitting .ensures) at (h .1)))
 
 pub take-spec : {M : Type 1} → statement M
 take-spec =
     tie.close
-    (tie.spec
-    admit-requires
-    returns
-    add-n
-    returns-2
-    advance-requires
-    cast-offer
-    offer-requires
-    found-requires
-    count-if-requires
-    returns-3)
+    (tie.spec threads-of-requires fitting-requires hand-requires answer-by-requires returns)
