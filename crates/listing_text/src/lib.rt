@@ -9,8 +9,7 @@ ghost use Prim.Native.Nat.{ℕ, _≤_};
 ghost use mathlib.Core.Path.{_≡_};
 ghost use mathlib.Core.Bool.{cond};
 ghost use mathlib.Core.List.{List, []};
-ghost use lib.ListN.{length, take};
-ghost use Rattle.writer.specs.Writing.{writing, writtenIs, bufferAfter};
+ghost use lib.ListN.{length};
 ghost use Rattle.listing_text.specs.Text.{ascii, figures as figuresOf, decimal, metresText, heightText, operationText, slotLine, refusalLine, matchLine};
 ghost use Rattle.listing_text.specs.Page.{blank, with, onto, linesOf, textOf};
 ghost use Rattle.listing_text.specs.Listing.{enough as room, Listing, ListedIn};
@@ -34,25 +33,8 @@ pub fn write(pattern: &[u8], log: &[u8], buffer: &mut [u8]) -> Written
     ensures { λ r. ⌜ ListedIn (now (pattern .entry)) (now (log .entry)) (now (buffer .entry)) (now (buffer .exit)) r ⌝ }
 {
     let page = listing(pattern, log);
-    copy(page, buffer)
-}
-
-fn copy(page: Page, buffer: &mut [u8]) -> Written
-    requires { ⌜ (length (page .bytes) ≡ room) × (page .size ≤ room) ⌝ }
-    ensures answer { λ r. ⌜ writtenIs r ≡ writing 0 (take (page .size) (page .bytes)) (now (buffer .entry)) 0 ⌝ }
-    ensures after { λ r. ⌜ now (buffer .exit) ≡ bufferAfter 0 (take (page .size) (page .bytes)) (now (buffer .entry)) 0 ⌝ }
-{
-    let size = page.size;
-    if buffer.len() < size {
-        return Written::Refused {
-            number: 15,
-            offset: 0,
-        };
-    }
-    for i in 0..size {
-        buffer[i] = page.bytes[i];
-    }
-    Written::Next { at: size }
+    let bytes = page.bytes;
+    writer::put(buffer, 0, &bytes, page.size)
 }
 
 fn listing(pattern: &[u8], log: &[u8]) -> Page

@@ -1,3 +1,4 @@
+use native.Mathlib.Omega.{arith}
 use Rattle.listing_text.proofs.Onto.{holding}
 use borrow.Author.Needs.{needs}
 use Rattle.listing_text.proofs.write.Statement.{statement}
@@ -6,21 +7,26 @@ use Rattle.listing_text.proofs.write.Tie as tie
 listing-requires : tie.Need-listing-requires
 listing-requires c κs = search needs
 
-copy-requires : tie.Need-copy-requires
-copy-requires c κs =
-    let t = c .before .listing .ensures in
-    let g = holding (t .0) (c .before .listing .result) (t .2) (t .3) in
-    (g .full, g .size)
+slice-aggregate-put : tie.Need-slice-aggregate-put
+slice-aggregate-put c = search needs
+
+put-requires : tie.Need-put-requires
+put-requires c κs =
+    let t = c .before .before .before .listing .ensures in
+    let g = holding (t .0) (c .before .before .before .listing .result) (t .2) (t .3) in
+    let f = g .full in
+    let s = g .size in
+    omega arith
 
 same-length : tie.Need-same-length
 same-length c = search needs
 
 returns : tie.Need-returns
 returns c =
-    let t = c .before .before .before .before .listing .ensures in
-    let g = holding (t .0) (c .before .before .before .before .listing .result) (t .2) (t .3) in
-    let d = c .before .before .copy .ensures in
+    let t = c .before .before .before .before .before .before .listing .ensures in
+    let g = holding (t .0) (c .before .before .before .before .before .before .listing .result) (t .2) (t .3) in
+    let d = c .before .before .put .ensures in
     record { text = t .0; listing = t .1; short = t .2; answer = rw (g .text) at (d .0); buffer = rw (g .text) at (d .1) }
 
 pub write-spec : {M : Type 1} → statement M
-write-spec = tie.close (tie.spec listing-requires copy-requires same-length returns)
+write-spec = tie.close (tie.spec listing-requires slice-aggregate-put put-requires same-length returns)
