@@ -2,7 +2,7 @@
 use Prim.Native.Nat.{ℕ, _+_}
 use native.Mathlib.Omega.{arith}
 use mathlib.Core.Path.{_≡_, refl, sym, ap, subst, _∙_}
-use mathlib.Core.Bool.{true}
+use mathlib.Core.Bool.{true, false≢true, cond}
 use mathlib.Core.List.{List, [], _∷_, _++_}
 use lib.ListN.{length, getD, take, drop, take-append-drop}
 use lib.Seq.{getD-drop}
@@ -15,10 +15,14 @@ use Rattle.trace.specs.Before.{Numbered}
 use Rattle.trace.specs.Match.{Each, none, more}
 use Rattle.trace.proofs.Runs.{Among}
 use Rattle.trace.proofs.Numbers.{numbered-among}
+use Rattle.dependence.specs.Order.{HasMatch}
 use Rattle.session.specs.declared.Judged.{Judged}
-use Rattle.session.specs.Meaning as meaning
+use Rattle.session.specs.declared.Outcome.{Outcome}
+use Rattle.session.specs.declared.Outcome.the-variants.{Match, None, PatternRefused, LogRefused}
+use Rattle.session.specs.Answers.{Refused, nothing, Given, outcomeIs, judgedIs}
 use Rattle.session.specs.Meaning.{RunOf, pattern-refused, over-log, log-refused, judged}
-use Rattle.listing_text.specs.Text.{slotLine}
+use Rattle.event.proofs.Tests.{by-test}
+use Rattle.listing_text.specs.Text.{slotLine, refusalLine, patternRefusalLine, noMatchLine, matchLine}
 use Rattle.listing_text.specs.Page.{linesOf, textOf}
 use Rattle.listing_text.specs.Listing as listing
 use Rattle.listing_text.specs.Listing.{SlotLines}
@@ -42,11 +46,40 @@ module _ (bytes : List ℕ) (es : List Event) (q : readLog bytes ≡ accepted es
           a-line bytes slot n (ns ++ zeros) (λ y. let a : Among (length es) n = numbered-among m in let f : ⊥ = omega arith in f)
           ∙ ap (λ (x : Event). slotLine slot n x ++ linesOf bytes (slot + 1) (ns ++ zeros)) (numbered-event bytes es q n e m)
 
-pub listed : (pattern bytes : List ℕ) (r : Judged) → RunOf pattern bytes r → listing.Judged pattern bytes (textOf bytes (r .outcome) (r .numbers))
-listed pattern bytes r (pattern-refused q) = listing.pattern-refused q
-listed pattern bytes r (over-log a (log-refused q)) = listing.log-refused a q
-listed pattern bytes r (over-log a (judged v q (meaning.none h))) = listing.no-match a q h
-listed pattern bytes r (over-log {ss = ss} a (judged {es = es} v q (meaning.match {n = n} {numbers = numbers} h c m z))) =
-    listing.match a q h c m
-    (subst (λ (l : List ℕ). SlotLines es 1 (take (length ss) numbers) (linesOf bytes 1 l)) (take-append-drop (length ss) numbers)
-    (lines-per-slot bytes es q ss (take (length ss) numbers) (drop (length ss) numbers) 1 (m .fitting) (getD-drop (length ss) numbers 0 0 ∙ z (length ss + 0) (omega arith))))
+-- the text of what a run gives, whichever case of its answer stands for it
+by-refused : {A : Type 0} → Refused → A → A → A → A
+by-refused nothing a b c = a
+by-refused Refused.pattern a b c = b
+by-refused Refused.log a b c = c
+
+given-text : List ℕ → Given → List ℕ
+given-text bytes g =
+    by-refused (g .refused)
+    (cond (g .ruling .matches) (matchLine (g .ruling .count) ++ linesOf bytes 1 (g .ruling .events)) noMatchLine)
+    (patternRefusalLine (g .refusal .number) (g .refusal .offset))
+    (refusalLine (g .refusal .number) (g .refusal .offset))
+
+text-is : (bytes : List ℕ) (o : Outcome) (numbers : List ℕ) → given-text bytes (outcomeIs o numbers) ≡ textOf bytes o numbers
+unfolding given-text by-refused
+text-is bytes (Match n) numbers = refl
+text-is bytes None numbers = refl
+text-is bytes (PatternRefused k o) numbers = refl
+text-is bytes (LogRefused k o) numbers = refl
+
+given-listed : (pattern bytes : List ℕ) (g : Given) → RunOf pattern bytes g → listing.Judged pattern bytes (given-text bytes g)
+unfolding given-text by-refused
+given-listed pattern bytes g (pattern-refused q) = listing.pattern-refused q
+given-listed pattern bytes g (over-log a (log-refused q)) = listing.log-refused a q
+given-listed pattern bytes g (over-log {ss = ss} a (judged {es = es} {r = r} q v)) =
+    by-test (r .matches)
+    (λ y. let h = v .matches .0 y in rw y (listing.match a q h (v .count) (v .named h) (lines h)))
+    (λ y. rw y (listing.no-match a q (λ m. false≢true (sym y ∙ v .matches .1 m))))
+  where
+    lines : HasMatch ss es → SlotLines es 1 (take (length ss) (r .events)) (linesOf bytes 1 (r .events))
+    lines h =
+        subst (λ (l : List ℕ). SlotLines es 1 (take (length ss) (r .events)) (linesOf bytes 1 l)) (take-append-drop (length ss) (r .events))
+        (lines-per-slot bytes es q ss (take (length ss) (r .events)) (drop (length ss) (r .events)) 1 (v .named h .fitting)
+        (getD-drop (length ss) (r .events) 0 0 ∙ v .beyond (length ss + 0) (omega arith)))
+
+pub listed : (pattern bytes : List ℕ) (r : Judged) → RunOf pattern bytes (judgedIs r) → listing.Judged pattern bytes (textOf bytes (r .outcome) (r .numbers))
+listed pattern bytes r h = subst (listing.Judged pattern bytes) (text-is bytes (r .outcome) (r .numbers)) (given-listed pattern bytes (judgedIs r) h)
