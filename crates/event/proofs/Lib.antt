@@ -3,3 +3,4 @@ pub mod Tags
 pub mod InRange
 pub mod OneSlot
 pub mod Filled
+pub mod SlotNumbers

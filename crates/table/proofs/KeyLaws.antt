@@ -1,30 +1,25 @@
 -- An event whose key is none of the slots' fits no slot.
 -- Assumes nothing.
-use Prim.Native.Nat.{ℕ, zero, suc, _+_, _*_, _<_, _≤_}
-use mathlib.Core.Path.{_≡_, refl, sym, ap, _∙_}
-use mathlib.Core.Bool.{Bool, true, false, _&&_, and-eq-true-iff, false≢true}
+use Prim.Native.Nat.{ℕ, zero, suc, _<_}
+use mathlib.Core.Path.{_≡_, sym, _∙_}
+use mathlib.Core.Bool.{true, false, false≢true}
 use mathlib.Core.List.{List}
 use native.Mathlib.Decide.{ℕ-discrete}
 use native.Mathlib.Omega.{arith}
-use lib.Dec.{eqb, leb, ltb}
+use lib.Dec.{eqb}
 use lib.ListN.{getD}
-use borrow.Author.Tests.{eq-eqb, eqb-true, leb-true}
+use borrow.Author.Tests.{eq-eqb}
 use Rattle.event.specs.declared.Event.{Event}
 use Rattle.event.specs.declared.Slot.{Slot}
 use Rattle.event.specs.Limits.{slots}
-use Rattle.event.specs.Slots.{byteOf, objectOf, withoutHeight, sameOperation, fits, slotOf, noSlot}
+use Rattle.event.specs.Slots.{fits, slotOf, noSlot}
 use Rattle.event.proofs.Tests.{by-test}
+use Rattle.event.proofs.SlotNumbers.{fits-alike}
 use Rattle.table.specs.Keys.{KeysOf, wantsTo}
 use Rattle.event.specs.Keys.{keyOf}
 
 fits-key : (s : Slot) (e : Event) → fits s e ≡ true → keyOf s ≡ keyOf (slotOf e)
-fits-key s e h =
-    let a = and-eq-true-iff (eqb (s .thread) (e .thread)) (sameOperation (s .operation) (e .operation)) .0 h in
-    let b = and-eq-true-iff (eqb (byteOf (s .operation)) (byteOf (withoutHeight (e .operation)))) (eqb (objectOf (s .operation)) (objectOf (withoutHeight (e .operation)))) .0 (a .1) in
-    let t : s .thread ≡ e .thread = eqb-true _ _ (a .0) in
-    let y : byteOf (s .operation) ≡ byteOf (withoutHeight (e .operation)) = eqb-true _ _ (b .0) in
-    let o : objectOf (s .operation) ≡ objectOf (withoutHeight (e .operation)) = eqb-true _ _ (b .1) in
-    omega arith
+fits-key s e h = let a = fits-alike s e h in let t = a .thread in let b = a .byte in let o = a .object in omega arith
 
 unwanted : (n : ℕ) (keys : List ℕ) (k : ℕ) → wantsTo n keys k ≡ false → (j : ℕ) → j < n → getD keys j 0 ≡ k → ⊥
 unfolding wantsTo

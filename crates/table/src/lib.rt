@@ -1,7 +1,6 @@
 // The table that keeps, for every set of a pattern's slots, the greatest partial match, as the events of a log arrive.
 use clock::Stamp;
 use event::Slot;
-use event::SlotOperation;
 ghost use mathlib.Core.Path.{_≡_};
 ghost use mathlib.Core.Logic.{_↔_};
 ghost use mathlib.Core.Bool.{true, false};
@@ -105,23 +104,7 @@ pub fn wants(keys: [u32; event::SLOTS], k: u32) -> bool
 fn slot_key(s: Slot) -> u32
     ensures { λ r. ⌜ r ≡ keyOf s ⌝ }
 {
-    let t = s.thread;
-    let op = s.operation;
-    match op {
-        SlotOperation::Read { variable } => key(t, 1, variable as u16),
-        SlotOperation::Write { variable } => key(t, 2, variable as u16),
-        SlotOperation::Acquire { lock } => key(t, 3, lock as u16),
-        SlotOperation::Release { lock } => key(t, 4, lock as u16),
-        SlotOperation::Fork { child } => key(t, 5, child as u16),
-        SlotOperation::Join { child } => key(t, 6, child as u16),
-        SlotOperation::Mark { mark } => key(t, 7, mark),
-    }
-}
-
-fn key(thread: u8, byte: u8, object: u16) -> u32
-    ensures { λ r. ⌜ r ≡ byte + 256 * thread + 65536 * (object % 256) ⌝ }
-{
-    byte as u32 + 256 * (thread as u32) + 65536 * (object as u32 % 256)
+    event::number_of(s) % 16777216
 }
 
 // Takes one event of a thread, which has this stamp and number and fits the slots that `fit` says; `acting` is the thread of each slot.
