@@ -1,96 +1,101 @@
 -- An event in numbers: what no event can hold is refused by its number, and what is left is an event.
-use Prim.Native.Nat.{ℕ, zero, suc, _<_, _≤_}
+use Prim.Native.Nat.{ℕ, _<_, _≤_}
 use native.Mathlib.Omega.{arith}
-use mathlib.Core.Path.{_≡_, _∙_}
-use mathlib.Core.Bool.{true, false}
+use mathlib.Core.Path.{_≡_, refl, sym, _∙_}
+use mathlib.Core.Bool.{true, false, false≢true}
 use lib.Dec.{eqb, leb, ltb}
 use lib.IntN.{ℤ}
 use borrow.Author.Tests.{ne-eqb, le-leb, leb-true, leb-false, eqb-false, ltb-false}
-use Rattle.event.specs.Limits.{threads, marks}
-use Rattle.event.specs.Slots.{objectOf, withoutHeight}
+use Rattle.event.specs.declared.SlotOperation.{SlotOperation}
+use Rattle.event.specs.declared.SlotOperation.the-variants.{Read, Write, Acquire, Release, Fork, Join, Mark}
+use Rattle.event.specs.Limits.{threads, variables, locks, marks}
+use Rattle.event.specs.Slots.{byteOf, objectOf, withoutHeight}
 use Rattle.event.specs.Range.{limitOf}
 use Rattle.event.proofs.Tests.{by-test}
 use Rattle.event.proofs.InRange.{passed}
 use Rattle.rules.specs.State.{refusalBy}
-use Rattle.session.specs.declared.Session.{Session}
-use Rattle.session.specs.declared.Answer.the-variants.{Refused}
-use Rattle.session.specs.declared.Handed.{Handed}
-use Rattle.session.specs.Model.{handed}
-use Rattle.bilguzor.specs.Sessions.{noOperation, operationFrom, eventFrom, Stands, unfitBy, handedNumbers}
+use Rattle.command.specs.Reading.{operationOf}
+use Rattle.command.proofs.WholeCommand.{by-byte}
+use Rattle.bilguzor.specs.declared.Parts.{Parts}
+use Rattle.bilguzor.specs.Sessions.{Numbers, handedOver, noOperation, Narrow, unfitBy, numberIn}
 
--- the object is above the limit of its operation
-abbrev Above : ℕ → ℕ → ℤ → Type 0
-Above b o h = leb (limitOf (withoutHeight (operationFrom b o h))) (objectOf (withoutHeight (operationFrom b o h))) ≡ true
+-- no object is above every limit, and only a mark's limit is above a byte
+limit-marks : (op : SlotOperation) → limitOf op ≤ marks
+limit-marks (Read v) = let l : variables ≤ marks = omega arith in l
+limit-marks (Write v) = let l : variables ≤ marks = omega arith in l
+limit-marks (Acquire l) = let l : locks ≤ marks = omega arith in l
+limit-marks (Release l) = let l : locks ≤ marks = omega arith in l
+limit-marks (Fork c) = let l : threads ≤ marks = omega arith in l
+limit-marks (Join c) = let l : threads ≤ marks = omega arith in l
+limit-marks (Mark m) = let l : marks ≤ marks = omega arith in l
 
-above-all : (b o : ℕ) (h : ℤ) → marks ≤ o → b ≤ 7 → Above b o h
-above-all zero o h l m = le-leb marks o l
-above-all (suc zero) o h l m = le-leb 32 o (omega arith)
-above-all (suc (suc zero)) o h l m = le-leb 32 o (omega arith)
-above-all (suc (suc (suc zero))) o h l m = le-leb 16 o (omega arith)
-above-all (suc (suc (suc (suc zero)))) o h l m = le-leb 16 o (omega arith)
-above-all (suc (suc (suc (suc (suc zero))))) o h l m = le-leb 8 o (omega arith)
-above-all (suc (suc (suc (suc (suc (suc zero)))))) o h l m = le-leb 8 o (omega arith)
-above-all (suc (suc (suc (suc (suc (suc (suc zero))))))) o h l m = le-leb marks o l
-above-all (suc (suc (suc (suc (suc (suc (suc (suc n)))))))) o h l m = absurd (let f : ⊥ = omega arith in f)
+limit-byte : (op : SlotOperation) → (byteOf op ≡ 7 → ⊥) → limitOf op ≤ 256
+limit-byte (Read v) d = let l : variables ≤ 256 = omega arith in l
+limit-byte (Write v) d = let l : variables ≤ 256 = omega arith in l
+limit-byte (Acquire l) d = let l : locks ≤ 256 = omega arith in l
+limit-byte (Release l) d = let l : locks ≤ 256 = omega arith in l
+limit-byte (Fork c) d = let l : threads ≤ 256 = omega arith in l
+limit-byte (Join c) d = let l : threads ≤ 256 = omega arith in l
+limit-byte (Mark m) d = absurd (d refl)
 
-above-byte : (b o : ℕ) (h : ℤ) → 256 ≤ o → 0 < b → b < 7 → Above b o h
-above-byte zero o h l p q = absurd (let f : ⊥ = omega arith in f)
-above-byte (suc zero) o h l p q = le-leb 32 o (omega arith)
-above-byte (suc (suc zero)) o h l p q = le-leb 32 o (omega arith)
-above-byte (suc (suc (suc zero))) o h l p q = le-leb 16 o (omega arith)
-above-byte (suc (suc (suc (suc zero)))) o h l p q = le-leb 16 o (omega arith)
-above-byte (suc (suc (suc (suc (suc zero))))) o h l p q = le-leb 8 o (omega arith)
-above-byte (suc (suc (suc (suc (suc (suc zero)))))) o h l p q = le-leb 8 o (omega arith)
-above-byte (suc (suc (suc (suc (suc (suc (suc n))))))) o h l p q = absurd (let f : ⊥ = omega arith in f)
+-- the operation of a byte from 1 to 7 has that byte and the object
+pub record Operates (b o : ℕ) (h : ℤ) : Type 0 where
+  pub byte : byteOf (withoutHeight (operationOf b o h)) ≡ b
+  pub object : objectOf (withoutHeight (operationOf b o h)) ≡ o
 
-module _ (s : Session) (t b o : ℕ) (h : ℤ) where
-  abbrev RefusedWith : ℕ → Type 0
-  RefusedWith k = _≡_ {A = Handed} (record { answer = Refused k 0; session = s }) (handedNumbers s t b o h)
+in-bytes : (b : ℕ) → noOperation b ≡ false → (0 < b) × (b ≤ 7)
+in-bytes b q =
+    by-test (eqb b 0)
+    (λ y. absurd (false≢true (sym q ∙ rw y)))
+    (λ y. let d : b ≡ 0 → ⊥ = eqb-false b 0 y in (omega arith, ltb-false 7 b (rw y at q)))
 
-  no-event : noOperation b ≡ true → RefusedWith 3
-  unfolding handedNumbers
-  no-event q = rw q
+pub operates : (b o : ℕ) (h : ℤ) → noOperation b ≡ false → Operates b o h
+operates b o h q =
+    by-byte (λ c. Operates c o h) (at 1 refl refl) (at 2 refl refl) (at 3 refl refl) (at 4 refl refl) (at 5 refl refl) (at 6 refl refl) (at 7 refl refl) b
+    (in-bytes b q .0) (in-bytes b q .1)
+  where
+    at : (c : ℕ) → byteOf (withoutHeight (operationOf c o h)) ≡ c → objectOf (withoutHeight (operationOf c o h)) ≡ o → Operates c o h
+    at c p r = record { byte = p; object = r }
 
-  by-rules : noOperation b ≡ false → (k : ℕ) → (k ≡ 0 → ⊥) → refusalBy (s .state) (s .taken) (eventFrom t b o h) ≡ k → RefusedWith k
-  unfolding handedNumbers handed
-  by-rules q k d z = rw (q, z, ne-eqb k 0 d)
+-- numbers that no event can hold are refused, by the first number that they meet
+module _ (p : Parts) (t b o : ℕ) (h : ℤ) where
+  abbrev n : Numbers
+  n = handedOver t b o h
 
-  wide-thread : noOperation b ≡ false → leb threads t ≡ true → RefusedWith 5
-  unfolding refusalBy
-  wide-thread q u = by-rules q 5 (λ z. let f : ⊥ = omega arith in f) (rw u)
+  wide-object : noOperation b ≡ false → leb threads t ≡ false → limitOf (withoutHeight (operationOf b o h)) ≤ o → numberIn p n ≡ 6
+  unfolding numberIn refusalBy
+  wide-object q u l = rw (q, u, operates b o h q .object, le-leb _ o l)
 
-  wide-object : noOperation b ≡ false → leb threads t ≡ false → Above b o h → RefusedWith 6
-  unfolding refusalBy
-  wide-object q u a = by-rules q 6 (λ z. let f : ⊥ = omega arith in f) (rw (u, a))
-
-  -- numbers that no event can hold are refused, by the first number that they meet
-  pub unfit-refused : (k : ℕ) → k ≡ unfitBy t b o → (k ≡ 0 → ⊥) → RefusedWith k
-  unfit-refused k e d =
+  pub unfit-number : (k : ℕ) → k ≡ unfitBy t b o → (k ≡ 0 → ⊥) → k ≡ numberIn p n
+  unfolding numberIn refusalBy
+  unfit-number k e d =
       by-test (eqb b 0)
-      (λ q0. let k3 : k ≡ 3 = e ∙ rw q0 in rw k3 (no-event (rw q0)))
+      (λ q0. e ∙ rw q0)
       (λ q0.
       by-test (ltb 7 b)
-      (λ q7. let k3 : k ≡ 3 = e ∙ rw (q0, q7) in rw k3 (no-event (rw (q0, q7))))
+      (λ q7. e ∙ rw (q0, q7))
       (λ q7.
       let event : noOperation b ≡ false = rw (q0, q7) in
       by-test (leb threads t)
-      (λ qt. let k5 : k ≡ 5 = e ∙ rw (q0, q7, qt) in rw k5 (wide-thread event qt))
+      (λ qt. e ∙ rw (q0, q7, qt))
       (λ qt.
       by-test (leb marks o)
-      (λ qm. let k6 : k ≡ 6 = e ∙ rw (q0, q7, qt, qm) in rw k6 (wide-object event qt (above-all b o h (leb-true _ _ qm) (ltb-false 7 b q7))))
+      (λ qm.
+      let l : marks ≤ o = leb-true marks o qm in
+      let m = limit-marks (withoutHeight (operationOf b o h)) in
+      let six : k ≡ 6 = e ∙ rw (q0, q7, qt, qm) in
+      six ∙ sym (wide-object event qt (omega arith)))
       (λ qm.
       by-test (eqb b 7)
       (λ qb. absurd (d (e ∙ rw (q0, q7, qt, qm, qb))))
       (λ qb.
       by-test (leb 256 o)
-      (λ qo. let k6 : k ≡ 6 = e ∙ rw (q0, q7, qt, qm, qb, qo) in rw k6 (wide-object event qt (above-byte b o h (leb-true _ _ qo) (above-0 q0) (below-7 q7 qb))))
+      (λ qo.
+      let l : 256 ≤ o = leb-true 256 o qo in
+      let m = limit-byte (withoutHeight (operationOf b o h)) (λ z. eqb-false b 7 qb (sym (operates b o h event .byte) ∙ z)) in
+      let six : k ≡ 6 = e ∙ rw (q0, q7, qt, qm, qb, qo) in
+      six ∙ sym (wide-object event qt (omega arith)))
       (λ qo. absurd (d (e ∙ rw (q0, q7, qt, qm, qb, qo)))))))))
-    where
-      above-0 : eqb b 0 ≡ false → 0 < b
-      above-0 q = let n : b ≡ 0 → ⊥ = eqb-false b 0 q in omega arith
-
-      below-7 : ltb 7 b ≡ false → eqb b 7 ≡ false → b < 7
-      below-7 q r = let l : b ≤ 7 = ltb-false 7 b q in let n : b ≡ 7 → ⊥ = eqb-false b 7 r in omega arith
 
 -- numbers that an event can hold
 pub record Fit (t b o : ℕ) : Type 0 where
@@ -98,7 +103,7 @@ pub record Fit (t b o : ℕ) : Type 0 where
   pub thread : t < threads
   pub low : b ≤ 7
   pub object : o < marks
-  pub stands : Stands b o
+  pub narrow : Narrow b o
 
 pub fit : (t b o : ℕ) → unfitBy t b o ≡ 0 → Fit t b o
 fit t b o z =
@@ -111,5 +116,5 @@ fit t b o z =
       thread = leb-false _ _ (qt .0);
       low = ltb-false 7 b (q7 .0);
       object = leb-false _ _ (qm .0);
-      stands = λ d. leb-false 256 o (passed (leb 256 o) 5 0 (rw (ne-eqb b 7 d) at (qm .1)) .0);
+      narrow = λ d. leb-false 256 o (passed (leb 256 o) 5 0 (rw (ne-eqb b 7 d) at (qm .1)) .0);
     }

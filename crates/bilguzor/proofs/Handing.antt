@@ -1,147 +1,160 @@
--- What the code leaves in a session's parts is what the model says of the session.
-use Prim.Native.Nat.{ℕ, _+_}
+-- What the code leaves in a session's parts is what the definitions say, and the parts go on being those of a session.
+use Prim.Native.Nat.{ℕ, _+_, _*_, _<_}
+use native.Mathlib.Omega.{arith}
 use mathlib.Core.Path.{_≡_, refl, sym, ap, _∙_}
-use mathlib.Core.Bool.{Bool, false, cond}
-use mathlib.Core.List.{List, reverse}
+use mathlib.Core.Bool.{Bool, true, false, cond}
+use mathlib.Core.List.{List, [], _∷_, reverse}
 use lib.Dec.{eqb}
 use lib.IntN.{ℤ}
-use lib.ListN.{getD}
+use lib.ListN.{length-reverse}
+use borrow.Author.Tests.{eqb-true, ne-eqb}
 use Rattle.event.specs.declared.Event.{Event}
 use Rattle.event.specs.declared.Slot.{Slot}
+use Rattle.event.specs.Slots.{slotOf, fitting, threadsOf}
+use Rattle.event.specs.Keys.{slotNumber, slotNumbers}
 use Rattle.event.proofs.Tests.{by-test}
-use Rattle.rules.specs.State.{refusalBy, stateAfter}
-use Rattle.clock.specs.declared.Stamp.{Stamp}
-use Rattle.clock.specs.Clocks.{stampBy, clocksAfter}
-use Rattle.table.specs.Table.{offered, foundIn, numbersIn}
+use Rattle.rules.specs.Accepted.{refusalAfter}
+use Rattle.rules.specs.State.{refusalBy}
+use Rattle.rules.proofs.StateLaws.{taken-in-range}
+use Rattle.log.specs.Whole.{InLimits, Outcome, passed, refused, patternAnswerIs, readPattern}
 use Rattle.session.specs.declared.Session.{Session}
-use Rattle.session.specs.declared.Answer as session
-use Rattle.session.specs.declared.Answer.the-variants.{Taken, Refused}
-use Rattle.session.specs.declared.Handed.{Handed}
-use Rattle.session.specs.declared.Outcome.{Outcome}
-use Rattle.session.specs.Model.{advanced, handed, foundAt, asOutcome, judgedBy}
-use Rattle.session.specs.Meaning.{numberOf, Describes}
+use Rattle.session.specs.declared.Opened.{Opened}
+use Rattle.session.specs.declared.Found.{Found}
+use Rattle.session.specs.declared.Found.the-variants.{Match, None}
+use Rattle.session.specs.declared.Outcome as session
+use Rattle.session.specs.Answers.{refusal, answerIs, foundIs, outcomeIs, nothing, Given}
+use Rattle.session.specs.Model.{slotsUsed, Kept, keptOf, sessionOn, keptAfter, answerBy, handed, foundAt, asOutcome}
+use Rattle.session.specs.Meaning.{takenBy, Describes, VerdictOf, OpenedOn}
 use Rattle.session.proofs.Described.{handed-described, verdict-described}
-use Rattle.session.proofs.Steps.{refused-is, matched-is, searched-is, taken-is}
-use Rattle.bilguzor.proofs.Events.{unfit-refused, fit}
+use Rattle.table.specs.Table.{numbersIn}
 use Rattle.bilguzor.specs.declared.Answer.{Answer}
 use Rattle.bilguzor.specs.declared.Judgement.{Judgement}
+use Rattle.bilguzor.specs.declared.Opening.{Opening}
 use Rattle.bilguzor.specs.declared.Parts.{Parts}
-use Rattle.bilguzor.specs.Numbers.{judgementFrom, judgementOf}
-use Rattle.bilguzor.specs.Parts.{slotsIn, sessionIn, partsWith, lent}
-use Rattle.bilguzor.specs.Sessions.{noOperation, eventFrom, unfitBy, handedNumbers, answerOf, refusalNumber, takenNumbers, Leaves, Takes, verdictIn, VerdictNumbers}
+use Rattle.bilguzor.specs.Numbers.{judgementOf}
+use Rattle.bilguzor.specs.Parts.{partsOf, keptIn, partsWith, actingIn, fittingIn}
+use Rattle.bilguzor.specs.Sessions.{InParts, openingFrom, openedParts, openingOf, Numbers, handedOver, noOperation, eventFrom, unfitBy, numberIn, partsAfter, refusalOf, takenWith, Takes, rulingIn}
+use Rattle.bilguzor.proofs.Events.{Operates, operates, unfit-number, fit}
+use Rattle.bilguzor.proofs.SlotsIn.{places-within, threads-told, fits-told}
 
--- ---- one event
+-- ---- one event, handed to the parts of a session
 
-left : (p : Parts) (h g : Handed) → h ≡ g → Leaves p g (answerOf (h .answer)) (partsWith p (h .session))
-left p h g q = record { answer = ap (λ (x : Handed). answerOf (x .answer)) q; parts = ap (λ (x : Handed). partsWith p (x .session)) q }
+-- a refused event leaves what is kept as it was, whatever it is said to fit
+kept-alike : (s : Session) (e : Event) → InLimits (s .pattern .slots)
+    → keptAfter (actingIn (slotNumbers (s .pattern .slots))) (fittingIn (slotNumbers (s .pattern .slots)) (slotNumber (slotOf e))) (s .pattern .size) (keptOf s) e
+    ≡ keptAfter (threadsOf (s .pattern .slots)) (fitting (s .pattern .slots) e) (s .pattern .size) (keptOf s) e
+unfolding keptAfter
+kept-alike s e g =
+    by-test (eqb (refusalBy (s .state) (s .taken) e) 0)
+    (λ q.
+    let r = taken-in-range (s .state) (s .taken) e (eqb-true _ _ q) in
+    rw (threads-told (s .pattern .slots) g, fits-told e (let t = r .thread in omega arith) (s .pattern .slots) g))
+    (λ q. rw q)
 
-module _ (clocks table : List ℕ) (taken count : ℕ) (pattern state : List ℕ) (e : Event) where
-  abbrev now : Parts
-  now = lent clocks table taken count pattern state
+answered : (k : ℕ) → answerIs (answerBy k) .number ≡ k
+answered k = by-test (eqb k 0) (λ q. rw q (sym (eqb-true k 0 q))) (λ q. rw q)
 
-  abbrev Hands : Answer → Parts → Type 0
-  Hands r after = Leaves now (handed (sessionIn now) e) r after
+in-limits : (ss : List Slot) (es : List Event) (s : Session) → Describes ss es s → InLimits (s .pattern .slots)
+in-limits ss es s h = rw (ap (λ p. p .slots) (h .pattern)) (places-within ss (h .good))
 
-  module _ (before : ℕ) (w : before ≡ taken) (state' : List ℕ) (q : state' ≡ stateAfter state before e) where
-    settled : state' ≡ stateAfter state taken e
-    settled = rw w at q
+-- the parts stay those of a session, described by the pattern and the events taken
+of-session : (ss : List Slot) (es : List Event) (s : Session) → Describes ss es s → (n : Numbers)
+    → (numberIn (partsOf s) n ≡ refusalOf (reverse es) n) × InParts ss (takenWith es n) (partsAfter (partsOf s) n)
+unfolding numberIn refusalOf takenWith partsAfter handed
+of-session ss es s h n =
+    by-test (noOperation (n .operation))
+    (λ q. rw q (refl, record { session = s; is = refl; describes = h }))
+    (λ q. rw q (number, record { session = handed s e .session; is = parts; describes = there .1 }))
+  where
+    e : Event
+    e = eventFrom n
 
-    pub refused : (k : ℕ) → k ≡ refusalBy state before e → (k ≡ 0 → ⊥) → Hands (record { number = k; offset = 0 }) (lent clocks table taken count pattern state')
-    refused k p d = left now _ _ (refused-is (sessionIn now) e state' settled k (rw w at p) d)
+    there : (answerIs (handed s e .answer) ≡ refusal (refusalAfter (reverse es) e) 0) × Describes ss (takenBy es e) (handed s e .session)
+    there = handed-described ss es s h e
 
-    module _ (k : ℕ) (p : k ≡ refusalBy state before e) (z : k ≡ 0) where
-      free : refusalBy state taken e ≡ 0
-      free = sym (rw w at p) ∙ z
+    number : refusalBy (s .state) (s .taken) e ≡ refusalAfter (reverse es) e
+    number = sym (answered (refusalBy (s .state) (s .taken) e)) ∙ ap (λ r. r .number) (there .0)
 
-      pub matched : (count ≡ 0 → ⊥) → Hands (record { number = 0; offset = 0 }) (lent clocks table (before + 1) count pattern state')
-      matched d = rw w (left now _ _ (taken-is (sessionIn now) _ e free (matched-is (sessionIn now) e state' settled d)))
+    parts : partsWith (partsOf s) (keptAfter (actingIn (slotNumbers (s .pattern .slots))) (fittingIn (slotNumbers (s .pattern .slots)) (slotNumber (slotOf e))) (s .pattern .size) (keptOf s) e)
+        ≡ partsOf (handed s e .session)
+    parts = ap (λ k. partsOf (sessionOn (s .pattern) k)) (kept-alike s e (in-limits ss es s h))
 
-      pub searched : (size : ℕ) (slots : List Slot) (stamp : Stamp) (clocks' table' : List ℕ) (found : Bool) (count' : ℕ) → count ≡ 0 → size ≡ sessionIn now .pattern .size
-          → slots ≡ slotsIn pattern → stamp ≡ stampBy clocks e → clocks' ≡ clocksAfter clocks e → table' ≡ offered table slots size e stamp (before + 1) → found ≡ foundIn table' size
-          → count' ≡ cond found (before + 1) 0 → Hands (record { number = 0; offset = 0 }) (lent clocks' table' (before + 1) count' pattern state')
-      searched size slots stamp clocks' table' found count' d sz sl st cl tb fo co =
-          rw w
-          (left now _ _
-          (taken-is (sessionIn now) _ e free
-          (searched-is (sessionIn now) e state' settled stamp clocks' table' found count' d st cl (rw (sz, sl, w) at tb) (rw sz at fo) (rw w at co))))
+pub one-event : (ss : List Slot) (es : List Event) (p : Parts) → InParts ss es p → (n : Numbers)
+    → (numberIn p n ≡ refusalOf (reverse es) n) × InParts ss (takenWith es n) (partsAfter p n)
+one-event ss es p h n = rw (h .is) (of-session ss es (h .session) (h .describes) n)
 
 -- ---- an event in numbers
 
-number-is : (a : session.Answer) → answerOf a .number ≡ numberOf a
-number-is Taken = refl
-number-is (Refused k o) = refl
-
--- an event leaves the pattern as it was
-advanced-pattern : (s : Session) (e : Event) → advanced s e .pattern ≡ s .pattern
-unfolding advanced
-advanced-pattern s e = by-test (eqb (s .count) 0) (λ q. rw q) (λ q. rw q)
-
-handed-pattern : (s : Session) (e : Event) → handed s e .session .pattern ≡ s .pattern
-unfolding handed
-handed-pattern s e = by-test (eqb (refusalBy (s .state) (s .taken) e) 0) (λ q. rw q (advanced-pattern s e)) (λ q. rw q)
-
 module _ (p : Parts) (t b o : ℕ) (h : ℤ) where
-  abbrev outcome : Handed
-  outcome = handedNumbers (sessionIn p) t b o h
+  abbrev over : Numbers
+  over = handedOver t b o h
 
-  same-pattern : outcome .session .pattern ≡ sessionIn p .pattern
-  unfolding handedNumbers
-  same-pattern = by-test (noOperation b) (λ q. rw q) (λ q. rw q (handed-pattern (sessionIn p) (eventFrom t b o h)))
-
-  -- the parts that are left are the session that the model says
-  pub again : sessionIn (partsWith p (outcome .session)) ≡ outcome .session
-  again =
-      sym (λ i. record {
-        pattern = same-pattern i;
-        state = outcome .session .state;
-        clocks = outcome .session .clocks;
-        table = outcome .session .table;
-        taken = outcome .session .taken;
-        count = outcome .session .count;
-      })
-
-  pub described : (ss : List Slot) (es : List Event) → Describes ss es (sessionIn p)
-      → (numberOf (outcome .answer) ≡ refusalNumber (reverse es) t b o h) × Describes ss (takenNumbers es t b o h) (outcome .session)
-  unfolding handedNumbers refusalNumber takenNumbers
-  described ss es d =
-      by-test (noOperation b) (λ q. rw q (refl, d)) (λ q. rw q (handed-described ss es (sessionIn p) d (eventFrom t b o h)))
-
-  answered : (r : Answer) (after : Parts) → Leaves p outcome r after → Takes p t b o h r after
-  answered r after l =
+  taking : (r : Answer) (after : Parts) → r ≡ record { number = numberIn p over; offset = 0 } → after ≡ partsAfter p over → Takes p over r after
+  taking r after a q =
       record {
-        leaves = l;
-        history = λ ss es d. (ap (λ (a : Answer). a .number) (l .answer) ∙ number-is (outcome .answer) ∙ described ss es d .0, rw (l .parts, again) (described ss es d .1));
+        answer = a;
+        parts = q;
+        history = λ ss es i. let one = one-event ss es p i over in (ap (λ x. x .number) a ∙ one .0, rw q (one .1));
       }
 
-  pub turned-away : (k : ℕ) → k ≡ unfitBy t b o → (k ≡ 0 → ⊥) → Takes p t b o h (record { number = k; offset = 0 }) p
-  turned-away k q d = answered _ _ (left p _ _ (unfit-refused (sessionIn p) t b o h k q d))
+  -- refused, the parts are as they were
+  unchanged : (numberIn p over ≡ 0 → ⊥) → p ≡ partsAfter p over
+  unfolding numberIn partsAfter keptAfter
+  unchanged d =
+      by-test (noOperation b)
+      (λ q. rw q)
+      (λ q. rw (q, ne-eqb (refusalBy (p .state) (p .taken) (eventFrom over)) 0 (λ z. d (rw q z))))
 
-  is-event : noOperation b ≡ false → handed (sessionIn p) (eventFrom t b o h) ≡ outcome
-  unfolding handedNumbers
-  is-event q = rw q
+  pub turned-away : (k : ℕ) → k ≡ unfitBy t b o → (k ≡ 0 → ⊥) → Takes p over (record { number = k; offset = 0 }) p
+  turned-away k q d =
+      let n : k ≡ numberIn p over = unfit-number p t b o h k q d in
+      taking _ _ (ap (λ (x : ℕ). record { number = x; offset = 0 }) n) (unchanged (λ z. d (n ∙ z)))
 
-  pub handed-on : (e : Event) → e ≡ eventFrom t b o h → unfitBy t b o ≡ 0 → (r : Answer) (after : Parts) → Leaves p (handed (sessionIn p) e) r after → Takes p t b o h r after
-  handed-on e q z r after l =
-      let same : handed (sessionIn p) e ≡ outcome = ap (handed (sessionIn p)) q ∙ is-event (fit t b o z .event) in
-      answered r after
-      (record {
-        answer = l .answer ∙ ap (λ (u : Handed). answerOf (u .answer)) same;
-        parts = l .parts ∙ ap (λ (u : Handed). partsWith p (u .session)) same;
-      })
+  number-over : noOperation b ≡ false → slotNumber (slotOf (eventFrom over)) ≡ b + 256 * t + 65536 * o
+  number-over q = let x = operates b o h q in rw (x .byte, x .object)
+
+  pub handed-on : (e : Event) → e ≡ eventFrom over → unfitBy t b o ≡ 0 → (acting : List ℕ) (fits : List Bool) → acting ≡ actingIn (p .slots)
+      → fits ≡ fittingIn (p .slots) (b + 256 * t + 65536 * o) → (k : ℕ) (after : Kept) → k ≡ refusalBy (p .state) (p .taken) e
+      → after ≡ keptAfter acting fits (p .size) (keptIn p) e → Takes p over (record { number = k; offset = 0 }) (partsWith p after)
+  unfolding numberIn partsAfter
+  handed-on e q z acting fits a f k after n s =
+      let event = fit t b o z .event in
+      taking _ _
+      (rw event (ap (λ (x : ℕ). record { number = x; offset = 0 }) (rw q at n)))
+      (rw (event, number-over event, sym a, sym f) (ap (partsWith p) (rw q at s)))
+
+-- ---- an opening
+
+in-opening : (x : Outcome) (p : Parts) → openingFrom x p .session ≡ p
+in-opening (passed n) p = refl
+in-opening (refused k o) p = refl
+
+-- what an opening answers, once its session is put into parts
+pub opened : (bytes : List ℕ) (o : Opened) → OpenedOn bytes o → (p : Parts) → p ≡ partsOf (o .session) → (r : Opening) → r ≡ openingFrom (patternAnswerIs (o .answer)) p
+    → (r ≡ openingOf bytes) × InParts (slotsUsed (readPattern bytes)) [] (r .session)
+opened bytes o h p q r e = (
+  e ∙ (λ i. openingFrom (h .answer i) ((q ∙ ap partsOf (h .session)) i)),
+  record { session = o .session; is = ap (λ (x : Opening). x .session) e ∙ in-opening (patternAnswerIs (o .answer)) p ∙ q; describes = h .described },
+)
+
+pub opened-in : (bytes : List ℕ) (o : Opened) → OpenedOn bytes o → InParts (slotsUsed (readPattern bytes)) [] (openedParts bytes)
+opened-in bytes o h = record { session = o .session; is = sym (ap partsOf (h .session)); describes = h .described }
 
 -- ---- the verdict
 
-pub judged : (table : List ℕ) (count : ℕ) (pattern : List ℕ) (size : ℕ) (numbers : List ℕ) (outcome : Outcome) (r : Judgement) → size ≡ getD pattern 20 0
-    → numbers ≡ numbersIn table size → outcome ≡ asOutcome (foundAt count) → r ≡ judgementFrom outcome numbers
-    → (r ≡ judgementOf (judgedBy (verdictIn table count pattern)))
-    × ((ss : List Slot) (es : List Event) (clocks state : List ℕ) (taken : ℕ) → Describes ss es (sessionIn (lent clocks table taken count pattern state)) → VerdictNumbers ss es r)
-judged table count pattern size numbers outcome r sz nu ou e =
-    let exact : r ≡ judgementOf (judgedBy (verdictIn table count pattern)) = e ∙ (λ i. judgementFrom (ou i) ((nu ∙ ap (numbersIn table) sz) i)) in (
-      exact,
-      λ ss es clocks state taken d.
-          record {
-            verdict = verdictIn table count pattern;
-            means = verdict-described ss es (sessionIn (lent clocks table taken count pattern state)) d;
-            numbers = exact;
-          },
-    )
+-- a verdict stands for itself among what a run gives
+given-found : (f : Found) (events : List ℕ) → outcomeIs (asOutcome f) events ≡ record { refused = nothing; refusal = refusal 0 0; ruling = foundIs f events }
+given-found (Match n) events = refl
+given-found None events = refl
+
+pub said : (ss : List Slot) (es : List Event) (p : Parts) → InParts ss es p → VerdictOf ss es (rulingIn (p .table) (p .count) (p .size))
+said ss es p h = rw (h .is) (verdict-described ss es (h .session) (h .describes))
+
+pub judged : (table : List ℕ) (count size : ℕ) (events : List ℕ) (outcome : session.Outcome) (r : Judgement) → events ≡ numbersIn table size
+    → outcome ≡ asOutcome (foundAt count) → r ≡ judgementOf (outcomeIs outcome events)
+    → (r ≡ judgementOf (record { refused = nothing; refusal = refusal 0 0; ruling = rulingIn table count size }))
+    × ((ss : List Slot) (es : List Event) (p : Parts) → InParts ss es p → p .table ≡ table → p .count ≡ count → p .size ≡ size → VerdictOf ss es (rulingIn table count size))
+judged table count size events outcome r ev ou e = (
+  e ∙ ap judgementOf ((λ i. outcomeIs (ou i) (ev i)) ∙ given-found (foundAt count) (numbersIn table size)),
+  λ ss es p h t c s. rw (sym t, sym c, sym s) (said ss es p h),
+)

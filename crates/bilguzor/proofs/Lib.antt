@@ -1,4 +1,4 @@
-pub mod Back
 pub mod Events
+pub mod SlotsIn
 pub mod Handing
 pub mod Whole

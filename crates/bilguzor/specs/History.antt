@@ -1,29 +1,22 @@
--- Demand 3 for sessions in parts: what is so for every list of events in numbers, the whole list and not each call.
+-- Demand 3 for sessions in parts and for exported runs: what is so for every list of events in numbers, the whole list and not each call.
 use Prim.Native.Nat.{ℕ}
 use mathlib.Core.Path.{_≡_}
-use mathlib.Core.List.{List, [], _∷_, reverse}
-use lib.IntN.{ℤ}
+use mathlib.Core.List.{List, [], _∷_, reverse, map}
+use lib.IntN.{ℤ, pos}
+use lib.ListN.{length, replicate}
+use Rattle.event.specs.declared.Operation.{Operation}
+use Rattle.event.specs.declared.Operation.the-variants.{Read, Write, Acquire, Release, Fork, Join, Mark}
 use Rattle.event.specs.declared.Event.{Event}
-use Rattle.log.specs.Whole.{readPattern}
-use Rattle.session.specs.declared.Handed.{Handed}
+use Rattle.event.specs.Slots.{byteOf, objectOf, withoutHeight}
+use Rattle.rules.specs.Accepted.{Accepted}
+use Rattle.log.specs.Whole.{accepted, logBytes, readLog, readPattern}
+use Rattle.dependence.specs.Order.{Reaches}
 use Rattle.session.specs.Model.{slotsUsed}
-use Rattle.session.specs.Meaning.{numberOf, Describes, VerdictOf}
+use Rattle.session.specs.Meaning.{VerdictOf}
+use Rattle.bilguzor.specs.declared.Judgement.{Judgement}
 use Rattle.bilguzor.specs.declared.Parts.{Parts}
-use Rattle.bilguzor.specs.Parts.{sessionIn, partsWith}
-use Rattle.bilguzor.specs.Sessions.{openingOf, handedNumbers, refusalNumber, takenNumbers, verdictIn}
-
--- an event as it is handed over, whatever its numbers
-pub record Numbers : Type 0 where
-  pub thread : ℕ
-  pub operation : ℕ
-  pub object : ℕ
-  pub height : ℤ
-
-abbrev pub outcomeIn : Parts → Numbers → Handed
-outcomeIn p n = handedNumbers (sessionIn p) (n .thread) (n .operation) (n .object) (n .height)
-
-abbrev pub partsAfter : Parts → Numbers → Parts
-partsAfter p n = partsWith p (outcomeIn p n .session)
+use Rattle.bilguzor.specs.Numbers.{RunNumbers}
+use Rattle.bilguzor.specs.Sessions.{openedParts, Numbers, handedOver, numberIn, partsAfter, refusalOf, takenWith, saidIn}
 
 -- the parts, and the number that each event gets, handed over one after another
 unfoldable pub partsAll : Parts → List Numbers → Parts
@@ -32,27 +25,47 @@ partsAll p (n ∷ ns) = partsAll (partsAfter p n) ns
 
 unfoldable pub answersAll : Parts → List Numbers → List ℕ
 answersAll p [] = []
-answersAll p (n ∷ ns) = numberOf (outcomeIn p n .answer) ∷ answersAll (partsAfter p n) ns
+answersAll p (n ∷ ns) = numberIn p n ∷ answersAll (partsAfter p n) ns
 
 -- the same by the rules alone: the events taken, in order, and the numbers
-abbrev pub takenBy : List Event → Numbers → List Event
-takenBy es n = takenNumbers es (n .thread) (n .operation) (n .object) (n .height)
-
 unfoldable pub takenAll : List Event → List Numbers → List Event
 takenAll es [] = es
-takenAll es (n ∷ ns) = takenAll (takenBy es n) ns
+takenAll es (n ∷ ns) = takenAll (takenWith es n) ns
 
 unfoldable pub refusalsAll : List Event → List Numbers → List ℕ
 refusalsAll es [] = []
-refusalsAll es (n ∷ ns) = refusalNumber (reverse es) (n .thread) (n .operation) (n .object) (n .height) ∷ refusalsAll (takenBy es n) ns
+refusalsAll es (n ∷ ns) = refusalOf (reverse es) n ∷ refusalsAll (takenWith es n) ns
+
+-- an event in numbers
+abbrev pub heightIn : Operation → ℤ
+heightIn (Read v) = pos 0
+heightIn (Write v h) = h
+heightIn (Acquire l) = pos 0
+heightIn (Release l) = pos 0
+heightIn (Fork c) = pos 0
+heightIn (Join c) = pos 0
+heightIn (Mark m) = pos 0
+
+abbrev pub inNumbers : Event → Numbers
+inNumbers e = handedOver (e .thread) (byteOf (withoutHeight (e .operation))) (objectOf (withoutHeight (e .operation))) (heightIn (e .operation))
+
+-- "All orders so reached are accepted and get the same answer, match or none.": an order of the events taken, handed over in numbers
+pub record SameAnswer (bytes : List ℕ) (numbers : List Numbers) (order : List Event) : Type 0 where
+  pub accepted-too : Accepted order
+  pub each-taken : answersAll (openedParts bytes) (map inNumbers order) ≡ replicate (length order) 0
+  pub all-taken : takenAll [] (map inNumbers order) ≡ order
+  pub same : saidIn (partsAll (openedParts bytes) (map inNumbers order)) .matches ≡ saidIn (partsAll (openedParts bytes) numbers) .matches
 
 -- "For every list of events, good or bad, handed one after another to a session fresh from its opening": the number of each, the events taken,
--- and "after each event", each list being the leading part of longer ones, the verdict
-abbrev pub partsOn : List ℕ → List Numbers → Parts
-partsOn bytes numbers = partsAll (openingOf bytes .session) numbers
+-- "after each event", each list being the leading part of longer ones, the verdict; and every order reached from the events taken
+pub record EveryHistory (bytes : List ℕ) (numbers : List Numbers) : Type 0 where
+  pub answers : answersAll (openedParts bytes) numbers ≡ refusalsAll [] numbers
+  pub taken : Accepted (takenAll [] numbers)
+  pub verdict : VerdictOf (slotsUsed (readPattern bytes)) (takenAll [] numbers) (saidIn (partsAll (openedParts bytes) numbers))
+  pub orders : (order : List Event) → Reaches (takenAll [] numbers) order → SameAnswer bytes numbers order
 
-pub record HistoryOf (bytes : List ℕ) (numbers : List Numbers) : Type 0 where
-  pub answers : answersAll (openingOf bytes .session) numbers ≡ refusalsAll [] numbers
-  pub session : Describes (slotsUsed (readPattern bytes)) (takenAll [] numbers) (sessionIn (partsOn bytes numbers))
-  pub verdict : VerdictOf (slotsUsed (readPattern bytes)) (takenAll [] numbers)
-      (verdictIn (partsOn bytes numbers .table) (partsOn bytes numbers .count) (partsOn bytes numbers .pattern))
+-- the same for runs: where one refuses nothing, a run over the log of every order reached has the same kind, a match or none
+pub record EveryRun (pattern log : List ℕ) (r : Judgement) : Type 0 where
+  pub events : List Event
+  pub reads : readLog log ≡ accepted events
+  pub orders : (order : List Event) → Reaches events order → (s : Judgement) → RunNumbers pattern (logBytes order) s → s .kind ≡ r .kind

@@ -5,28 +5,30 @@ use mathlib.Core.Bool.{Bool, cond, _||_}
 use mathlib.Core.List.{List, reverse}
 use lib.Dec.{eqb, leb, ltb}
 use lib.IntN.{ℤ}
-use lib.ListN.{getD}
-use Rattle.event.specs.declared.Operation.{Operation}
-use Rattle.event.specs.declared.Operation.the-variants.{Read, Write, Acquire, Release, Fork, Join, Mark}
 use Rattle.event.specs.declared.Event.{Event}
 use Rattle.event.specs.declared.Slot.{Slot}
 use Rattle.event.specs.Limits.{threads, marks}
+use Rattle.event.specs.Slots.{slotOf}
+use Rattle.event.specs.Keys.{slotNumber}
 use Rattle.rules.specs.Accepted.{refusalAfter}
+use Rattle.rules.specs.State.{refusalBy}
+use Rattle.command.specs.Reading.{operationOf}
 use Rattle.log.specs.Whole.{Outcome, passed, refused, outcomeOf, patternOf, readPattern}
 use Rattle.table.specs.Table.{numbersIn}
 use Rattle.session.specs.declared.Session.{Session}
-use Rattle.session.specs.declared.Answer as session
-use Rattle.session.specs.declared.Answer.the-variants.{Taken, Refused}
-use Rattle.session.specs.declared.Handed.{Handed}
-use Rattle.session.specs.declared.Verdict.{Verdict}
-use Rattle.session.specs.Model.{slotsUsed, freshOn, handed, foundAt, judgedBy}
+use Rattle.session.specs.Answers.{Ruling, foundIs}
+use Rattle.session.specs.Model.{slotsUsed, freshOn, keptAfter, foundAt}
 use Rattle.session.specs.Meaning.{Describes, takenBy, VerdictOf}
-use Rattle.bilguzor.specs.declared.Judgement.{Judgement}
 use Rattle.bilguzor.specs.declared.Answer.{Answer}
 use Rattle.bilguzor.specs.declared.Opening.{Opening}
 use Rattle.bilguzor.specs.declared.Parts.{Parts}
-use Rattle.bilguzor.specs.Numbers.{judgementOf}
-use Rattle.bilguzor.specs.Parts.{partsOf, sessionIn, partsWith}
+use Rattle.bilguzor.specs.Parts.{partsOf, keptIn, partsWith, actingIn, fittingIn}
+
+-- the parts are those of a session that has this pattern and has taken these events: "A session comes only from opening or from an earlier event"
+pub record InParts (ss : List Slot) (es : List Event) (p : Parts) : Type 0 where
+  pub session : Session
+  pub is : p ≡ partsOf session
+  pub describes : Describes ss es session
 
 -- ---- opening
 
@@ -36,32 +38,35 @@ openingFrom (passed n) p = record { number = 0; offset = 0; slots = n; session =
 openingFrom (refused k o) p = record { number = k; offset = o; slots = 0; session = p }
 
 -- "A refused opening hands back, beside the refusal, the session opened on the lone slot thread 0, mark 0, with no event taken."
+abbrev pub openedParts : List ℕ → Parts
+openedParts bytes = partsOf (freshOn (patternOf (slotsUsed (readPattern bytes))))
+
 abbrev pub openingOf : List ℕ → Opening
-openingOf bytes = openingFrom (outcomeOf (readPattern bytes)) (partsOf (freshOn (patternOf (slotsUsed (readPattern bytes)))))
+openingOf bytes = openingFrom (outcomeOf (readPattern bytes)) (openedParts bytes)
 
 -- ---- an event in numbers
+
+-- an event as it is handed over, whatever its numbers
+pub record Numbers : Type 0 where
+  pub thread : ℕ
+  pub operation : ℕ
+  pub object : ℕ
+  pub height : ℤ
+
+abbrev pub handedOver : ℕ → ℕ → ℕ → ℤ → Numbers
+handedOver t b object height = record { thread = t; operation = b; object = object; height = height }
 
 -- "byte | event": a number that is the byte of no event, which "3 | byte above 07" refuses; so is 0, which closes a log and is none
 abbrev pub noOperation : ℕ → Bool
 noOperation b = eqb b 0 || ltb 7 b
 
-abbrev pub operationFrom : ℕ → ℕ → ℤ → Operation
-operationFrom b object height =
-    cond (eqb b 1) (Read object)
-    (cond (eqb b 2) (Write object height)
-    (cond (eqb b 3) (Acquire object)
-    (cond (eqb b 4) (Release object)
-    (cond (eqb b 5) (Fork object)
-    (cond (eqb b 6) (Join object)
-    (Mark object))))))
-
 -- the event of the numbers, whether or not they are within their limits
-abbrev pub eventFrom : ℕ → ℕ → ℕ → ℤ → Event
-eventFrom t b object height = record { thread = t; operation = operationFrom b object height }
+abbrev pub eventFrom : Numbers → Event
+eventFrom n = record { thread = n .thread; operation = operationOf (n .operation) (n .object) (n .height) }
 
 -- the object fits the one byte that every event but a mark gives it
-abbrev pub Stands : ℕ → ℕ → Type 0
-Stands b object = (b ≡ 7 → ⊥) → object < 256
+abbrev pub Narrow : ℕ → ℕ → Type 0
+Narrow b object = (b ≡ 7 → ⊥) → object < 256
 
 -- the refusal of numbers that no event of a log can have: 3, then 5, then 6; 0 where there is such an event
 abbrev pub unfitBy : ℕ → ℕ → ℕ → ℕ
@@ -73,40 +78,32 @@ unfitBy t b object =
     (cond (eqb b 7) 0
     (cond (leb 256 object) 6 0)))))
 
--- "A single event handed to a session .. passes 5 to 7 first; its offset is 0": 3 goes before
-unfoldable pub handedNumbers : Session → ℕ → ℕ → ℕ → ℤ → Handed
-handedNumbers s t b object height = cond (noOperation b) (record { answer = Refused 3 0; session = s }) (handed s (eventFrom t b object height))
+-- "A single event handed to a session .. passes 5 to 7 first; its offset is 0": 3 goes before. The number, and the parts afterwards
+unfoldable pub numberIn : Parts → Numbers → ℕ
+numberIn p n = cond (noOperation (n .operation)) 3 (refusalBy (p .state) (p .taken) (eventFrom n))
 
--- what is answered, number 0 for an event that is taken
-abbrev pub answerOf : session.Answer → Answer
-answerOf Taken = record { number = 0; offset = 0 }
-answerOf (Refused k o) = record { number = k; offset = o }
+unfoldable pub partsAfter : Parts → Numbers → Parts
+partsAfter p n =
+    cond (noOperation (n .operation)) p
+    (partsWith p (keptAfter (actingIn (p .slots)) (fittingIn (p .slots) (slotNumber (slotOf (eventFrom n)))) (p .size) (keptIn p) (eventFrom n)))
 
--- the number by the events taken before, the newest first; and the events taken after it, in order
-unfoldable pub refusalNumber : List Event → ℕ → ℕ → ℕ → ℤ → ℕ
-refusalNumber past t b object height = cond (noOperation b) 3 (refusalAfter past (eventFrom t b object height))
+-- the same by the rules alone: the number by the events taken before, the newest first; and the events taken after it, in order
+unfoldable pub refusalOf : List Event → Numbers → ℕ
+refusalOf past n = cond (noOperation (n .operation)) 3 (refusalAfter past (eventFrom n))
 
-unfoldable pub takenNumbers : List Event → ℕ → ℕ → ℕ → ℤ → List Event
-takenNumbers es t b object height = cond (noOperation b) es (takenBy es (eventFrom t b object height))
+unfoldable pub takenWith : List Event → Numbers → List Event
+takenWith es n = cond (noOperation (n .operation)) es (takenBy es (eventFrom n))
 
--- what is answered to an event, and what is left of the parts
-pub record Leaves (before : Parts) (h : Handed) (r : Answer) (after : Parts) : Type 0 where
-  pub answer : r ≡ answerOf (h .answer)
-  pub parts : after ≡ partsWith before (h .session)
-
--- the same for an event in numbers, and what is so of every history: "A session is described by its pattern and the events it has taken."
-pub record Takes (before : Parts) (t b object : ℕ) (height : ℤ) (r : Answer) (after : Parts) : Type 0 where
-  pub leaves : Leaves before (handedNumbers (sessionIn before) t b object height) r after
-  pub history : (ss : List Slot) (es : List Event) → Describes ss es (sessionIn before)
-      → (r .number ≡ refusalNumber (reverse es) t b object height) × Describes ss (takenNumbers es t b object height) (sessionIn after)
+-- what is answered to an event in numbers, and what is left of the parts, for any parts and for those of a session
+pub record Takes (before : Parts) (n : Numbers) (r : Answer) (after : Parts) : Type 0 where
+  pub answer : r ≡ record { number = numberIn before n; offset = 0 }
+  pub parts : after ≡ partsAfter before n
+  pub history : (ss : List Slot) (es : List Event) → InParts ss es before → (r .number ≡ refusalOf (reverse es) n) × InParts ss (takenWith es n) after
 
 -- ---- the verdict
 
-abbrev pub verdictIn : List ℕ → ℕ → List ℕ → Verdict
-verdictIn table count pattern = record { found = foundAt count; numbers = numbersIn table (getD pattern 20 0) }
+abbrev pub rulingIn : List ℕ → ℕ → ℕ → Ruling
+rulingIn table count size = foundIs (foundAt count) (numbersIn table size)
 
--- the verdict of the events taken, as numbers
-pub record VerdictNumbers (ss : List Slot) (es : List Event) (r : Judgement) : Type 0 where
-  pub verdict : Verdict
-  pub means : VerdictOf ss es verdict
-  pub numbers : r ≡ judgementOf (judgedBy verdict)
+abbrev pub saidIn : Parts → Ruling
+saidIn p = rulingIn (p .table) (p .count) (p .size)
