@@ -1,0 +1,83 @@
+use lib.IntN.{ℤ}
+use mir.Facts.{toZ-ofZ}
+use Rattle.bilguzor.specs.Parts.{lent}
+use Rattle.bilguzor.specs.Sessions.{handedOver, eventFrom}
+use Rattle.bilguzor.proofs.Events.{Fit, fit}
+use Rattle.bilguzor.proofs.Handing.{turned-away, handed-on}
+use Prim.Native.Nat.{_-_}
+use native.Mathlib.Omega.{arith}
+use mathlib.Core.Path.{ap, sym, _∙_}
+use borrow.Author.Needs.{needs}
+use Rattle.bilguzor.proofs.bilguzor_take.Statement.{statement}
+use Rattle.bilguzor.proofs.bilguzor_take.Tie as tie
+
+-- the numbers handed over are an event's
+fit-there : (c : tie.Else1) → Fit (c .before .before .args .thread) (c .before .before .args .operation) (c .before .before .args .object)
+fit-there c = fit _ _ _ (sym (c .before .unfit .ensures) ∙ c .if1 .left)
+
+unfit-requires : tie.Need-unfit-requires
+unfit-requires c κs = search needs
+
+returns : tie.Need-returns
+returns c =
+    let a = c .before .before .args in
+    turned-away (lent (a .slots .now) (a .size) (a .state .now) (a .clocks .now) (a .table .now) (a .taken .now) (a .count .now)) (a .thread) (a .operation) (a .object) (a .height) _ (c .before .unfit .ensures) (c .if1 .taken)
+
+cast-event-of : tie.Need-cast-event-of
+cast-event-of c = let l = fit-there c .thread in omega arith
+
+cast-event-of-2 : tie.Need-cast-event-of-2
+cast-event-of-2 c = let l = fit-there c .low in omega arith
+
+cast-event-of-3 : tie.Need-cast-event-of-3
+cast-event-of-3 c = let l = fit-there c .object in omega arith
+
+event-of-requires : tie.Need-event-of-requires
+event-of-requires c κs = fit-there c .narrow
+
+threads-in-requires : tie.Need-threads-in-requires
+threads-in-requires c κs = search needs
+
+mul-fitting-in : tie.Need-mul-fitting-in
+mul-fitting-in c = let f = fit-there (c .before .before .before) in let x = f .thread in let y = f .low in let z = f .object in omega arith
+
+add-fitting-in : tie.Need-add-fitting-in
+add-fitting-in c = let f = fit-there (c .before .before .before) in let x = f .thread in let y = f .low in let z = f .object in omega arith
+
+mul-fitting-in-2 : tie.Need-mul-fitting-in-2
+mul-fitting-in-2 c = let f = fit-there (c .before .before .before) in let x = f .thread in let y = f .low in let z = f .object in omega arith
+
+add-fitting-in-2 : tie.Need-add-fitting-in-2
+add-fitting-in-2 c = let f = fit-there (c .before .before .before) in let x = f .thread in let y = f .low in let z = f .object in omega arith
+
+fitting-in-requires : tie.Need-fitting-in-requires
+fitting-in-requires c κs = search needs
+
+hand-requires : tie.Need-hand-requires
+hand-requires c κs = search needs
+
+returns-2 : tie.Need-returns-2
+returns-2 c =
+    let a = c .before .before .before .before .before .before .before .before .before .before .before .before .args in
+    let e = c .before .before .before .before .before .before .before .before .before .event-of .ensures ∙ ap (λ (h : ℤ). eventFrom (handedOver (a .thread) (a .operation) (a .object) h)) (toZ-ofZ (c .before .before .before .before .before .before .before .before .before .before .before .before .fits .height)) in
+    handed-on (lent (a .slots .now) (a .size) (a .state .now) (a .clocks .now) (a .table .now) (a .taken .now) (a .count .now)) (a .thread) (a .operation) (a .object) (a .height) _ e (sym (c .before .before .before .before .before .before .before .before .before .before .before .unfit .ensures) ∙ c .before .before .before .before .before .before .before .before .before .before .if1 .left) _ _
+    (c .before .before .before .before .before .before .before .threads-in .ensures) (c .before .before .before .before .before .before .fitting-in .ensures) _ _ (c .hand .ensures .0) (c .hand .ensures .1)
+
+pub bilguzor-take-spec : {M : Type 1} → statement M
+bilguzor-take-spec =
+    tie.close
+    (tie.spec
+    unfit-requires
+    returns
+    cast-event-of
+    cast-event-of-2
+    cast-event-of-3
+    event-of-requires
+    threads-in-requires
+    mul-fitting-in
+    add-fitting-in
+    mul-fitting-in-2
+    add-fitting-in-2
+    fitting-in-requires
+    hand-requires
+    returns-2)

@@ -1,0 +1,41 @@
+use Prim.Native.Nat.{_-_}
+use borrow.Author.Needs.{needs}
+use Rattle.bilguzor.proofs.numbers_of.Statement.{statement}
+use Rattle.bilguzor.proofs.numbers_of.Tie as tie
+
+enum-told : tie.Need-enum-told
+enum-told c = search needs
+
+enum-known-outcome : tie.Need-enum-known-outcome
+enum-known-outcome c = search needs
+
+enum-known-outcome-2 : tie.Need-enum-known-outcome-2
+enum-known-outcome-2 c = search needs
+
+enum-known-outcome-3 : tie.Need-enum-known-outcome-3
+enum-known-outcome-3 c = search needs
+
+returns : tie.Need-returns
+returns c = rw (c .enum-told .given .1)
+
+returns-2 : tie.Need-returns-2
+returns-2 c = rw (c .before .outcome .given .1)
+
+returns-3 : tie.Need-returns-3
+returns-3 c = rw (c .before .outcome2 .given .1)
+
+returns-4 : tie.Need-returns-4
+returns-4 c = rw (c .before .outcome3 .given .1)
+
+pub numbers-of-spec : {M : Type 1} → statement M
+numbers-of-spec =
+    tie.close
+    (tie.spec
+    enum-told
+    enum-known-outcome
+    enum-known-outcome-2
+    enum-known-outcome-3
+    returns
+    returns-2
+    returns-3
+    returns-4)
