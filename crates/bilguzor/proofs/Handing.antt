@@ -16,16 +16,17 @@ use Rattle.event.proofs.Tests.{by-test}
 use Rattle.rules.specs.Accepted.{refusalAfter}
 use Rattle.rules.specs.State.{refusalBy}
 use Rattle.rules.proofs.StateLaws.{taken-in-range}
-use Rattle.log.specs.Whole.{InLimits, Outcome, passed, refused, patternAnswerIs, readPattern}
+use Rattle.log.specs.Whole.{InLimits, Outcome, passed, refused, patternAnswerIs, patternOf, readPattern}
+use Rattle.command.specs.Bytes.{Bytes}
 use Rattle.session.specs.declared.Session.{Session}
 use Rattle.session.specs.declared.Opened.{Opened}
 use Rattle.session.specs.declared.Found.{Found}
 use Rattle.session.specs.declared.Found.the-variants.{Match, None}
 use Rattle.session.specs.declared.Outcome as session
 use Rattle.session.specs.Answers.{refusal, answerIs, foundIs, outcomeIs, nothing, Given}
-use Rattle.session.specs.Model.{slotsUsed, Kept, keptOf, sessionOn, keptAfter, answerBy, handed, foundAt, asOutcome}
+use Rattle.session.specs.Model.{slotsUsed, freshOn, Kept, keptOf, sessionOn, keptAfter, answerBy, handed, foundAt, asOutcome}
 use Rattle.session.specs.Meaning.{takenBy, Describes, VerdictOf, OpenedOn}
-use Rattle.session.proofs.Described.{handed-described, verdict-described}
+use Rattle.session.proofs.Described.{fresh-described, used-good, handed-described, verdict-described}
 use Rattle.table.specs.Table.{numbersIn}
 use Rattle.bilguzor.specs.declared.Answer.{Answer}
 use Rattle.bilguzor.specs.declared.Judgement.{Judgement}
@@ -137,8 +138,13 @@ opened bytes o h p q r e = (
   record { session = o .session; is = ap (λ (x : Opening). x .session) e ∙ in-opening (patternAnswerIs (o .answer)) p ∙ q; describes = h .described },
 )
 
-pub opened-in : (bytes : List ℕ) (o : Opened) → OpenedOn bytes o → InParts (slotsUsed (readPattern bytes)) [] (openedParts bytes)
-opened-in bytes o h = record { session = o .session; is = sym (ap partsOf (h .session)); describes = h .described }
+pub opened-in : (bytes : List ℕ) → Bytes bytes → InParts (slotsUsed (readPattern bytes)) [] (openedParts bytes)
+opened-in bytes b =
+    record {
+      session = freshOn (patternOf (slotsUsed (readPattern bytes)));
+      is = refl;
+      describes = fresh-described (slotsUsed (readPattern bytes)) (used-good bytes b);
+    }
 
 -- ---- the verdict
 

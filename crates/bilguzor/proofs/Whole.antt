@@ -1,26 +1,32 @@
 -- Demand 3 for the exported functions: every list of events in numbers, every order reached from the events taken, and every run.
-use Prim.Native.Nat.{ℕ}
+use Prim.Native.Nat.{ℕ, _≤_}
 use native.Mathlib.Omega.{arith}
 use mathlib.Core.Path.{_≡_, refl, sym, ap, ap₂, _∙_}
 use mathlib.Core.Logic.{_↔_}
-use mathlib.Core.Bool.{false}
-use mathlib.Core.List.{List, [], _∷_, reverse, map, reverse-reverse}
+use mathlib.Core.Bool.{Bool, false}
+use mathlib.Core.List.{List, [], _∷_, _++_, reverse, map, append-assoc, append-nil, reverse-cons, reverse-append, reverse-reverse}
 use lib.ListN.{length, replicate}
 use borrow.Author.Tests.{eq-eqb}
 use Rattle.event.specs.declared.Operation.{Operation}
 use Rattle.event.specs.declared.Operation.the-variants.{Read, Write, Acquire, Release, Fork, Join, Mark}
 use Rattle.event.specs.declared.Event.{Event}
 use Rattle.event.specs.declared.Slot.{Slot}
-use Rattle.rules.specs.Accepted.{Accepted}
-use Rattle.session.specs.declared.Opened.{Opened}
-use Rattle.session.specs.Meaning.{Describes, VerdictOf, OpenedOn}
+use Rattle.event.specs.Slots.{byteOf, objectOf, withoutHeight}
+use Rattle.rules.specs.Accepted.{refusalAfter, takenAfter, AcceptedAfter, one-more, Accepted}
+use Rattle.command.specs.Bytes.{Bytes}
+use Rattle.command.specs.Reading.{operationOf}
+use Rattle.session.specs.Answers.{Refused, nothing}
+use Rattle.session.specs.History as session
+use Rattle.session.proofs.Demand.{same-verdict, every-run as run-demand}
 use Rattle.dependence.specs.Order.{Reaches, HasMatch}
 use Rattle.dependence.proofs.Reached.{order-reached}
 use Rattle.log.specs.Whole.{readPattern}
 use Rattle.session.specs.Model.{slotsUsed}
+use Rattle.bilguzor.specs.declared.Judgement.{Judgement}
 use Rattle.bilguzor.specs.declared.Parts.{Parts}
-use Rattle.bilguzor.specs.Sessions.{InParts, openedParts, Numbers, noOperation, eventFrom, numberIn, partsAfter, takenWith, saidIn}
-use Rattle.bilguzor.specs.History.{partsAll, answersAll, takenAll, refusalsAll, inNumbers, SameAnswer, EveryHistory}
+use Rattle.bilguzor.specs.Numbers.{kindOf, RunNumbers}
+use Rattle.bilguzor.specs.Sessions.{InParts, openedParts, Numbers, noOperation, eventFrom, partsAfter, refusalOf, takenWith}
+use Rattle.bilguzor.specs.History.{partsAll, answersAll, takenAll, refusalsAll, heightIn, inNumbers, SameAnswer, EveryHistory, EveryRun}
 use Rattle.bilguzor.proofs.Handing.{one-event, opened-in, said}
 
 -- ---- every list of events
@@ -33,3 +39,99 @@ after-all ss es p h (n ∷ ns) =
     let one = one-event ss es p h n in
     let rest = after-all ss (takenWith es n) (partsAfter p n) (one .1) ns in
     (ap₂ _∷_ (one .0) (rest .0), rest .1)
+
+-- ---- every order reached
+
+-- an event in numbers is that event
+back : (op : Operation) → operationOf (byteOf (withoutHeight op)) (objectOf (withoutHeight op)) (heightIn op) ≡ op
+back (Read v) = refl
+back (Write v h) = refl
+back (Acquire l) = refl
+back (Release l) = refl
+back (Fork c) = refl
+back (Join c) = refl
+back (Mark m) = refl
+
+an-operation : (op : Operation) → noOperation (byteOf (withoutHeight op)) ≡ false
+an-operation (Read v) = refl
+an-operation (Write v h) = refl
+an-operation (Acquire l) = refl
+an-operation (Release l) = refl
+an-operation (Fork c) = refl
+an-operation (Join c) = refl
+an-operation (Mark m) = refl
+
+event-back : (e : Event) → eventFrom (inNumbers e) ≡ e
+event-back e = ap (λ op. record { thread = e .thread; operation = op }) (back (e .operation))
+
+-- an accepted list is taken whole, in numbers too
+one-taken : (es : List Event) (e : Event) → refusalAfter (reverse es) e ≡ 0 → (refusalOf (reverse es) (inNumbers e) ≡ 0) × (takenWith es (inNumbers e) ≡ es ++ (e ∷ []))
+unfolding refusalOf takenWith takenAfter
+one-taken es e z =
+    rw (an-operation (e .operation), event-back e)
+    (z, rw (eq-eqb (refusalAfter (reverse es) e) 0 z) (reverse-cons e (reverse es) ∙ ap (λ (l : List Event). l ++ (e ∷ [])) (reverse-reverse es)))
+
+in-order : (es order : List Event) → AcceptedAfter (reverse es) order
+    → (takenAll es (map inNumbers order) ≡ es ++ order) × (refusalsAll es (map inNumbers order) ≡ replicate (length order) 0)
+unfolding takenAll refusalsAll
+in-order es [] a = (sym (append-nil es), refl)
+in-order es (e ∷ order) (one-more z a) =
+    let one = one-taken es e z in
+    let rest = in-order (es ++ (e ∷ [])) order (rw (reverse-append es (e ∷ [])) a) in (
+      ap (λ (l : List Event). takenAll l (map inNumbers order)) (one .1) ∙ rest .0 ∙ append-assoc es (e ∷ []) order,
+      ap₂ _∷_ (one .0) (ap (λ (l : List Event). refusalsAll l (map inNumbers order)) (one .1) ∙ rest .1),
+    )
+
+-- Demand 3 for the exported sessions: from the bytes of an opening, every list of events in numbers, and every order reached from those taken
+pub every-history : (bytes : List ℕ) → Bytes bytes → (numbers : List Numbers) → EveryHistory bytes numbers
+every-history bytes b numbers =
+    record {
+      answers = all .0;
+      taken = all .1 .describes .accepted;
+      verdict = said ss _ _ (all .1);
+      orders = λ order reached. same-answer order (order-reached ss (all .1 .describes .accepted) reached);
+    }
+  where
+    ss : List Slot
+    ss = slotsUsed (readPattern bytes)
+
+    start : (ns : List Numbers) → (answersAll (openedParts bytes) ns ≡ refusalsAll [] ns) × InParts ss (takenAll [] ns) (partsAll (openedParts bytes) ns)
+    start ns = after-all ss [] (openedParts bytes) (opened-in bytes b) ns
+
+    all : (answersAll (openedParts bytes) numbers ≡ refusalsAll [] numbers) × InParts ss (takenAll [] numbers) (partsAll (openedParts bytes) numbers)
+    all = start numbers
+
+    same-answer : (order : List Event) → Accepted order × (HasMatch ss (takenAll [] numbers) ↔ HasMatch ss order) → SameAnswer bytes numbers order
+    same-answer order ordered =
+        let taken = in-order [] order (ordered .0) in
+        let again = start (map inNumbers order) in
+        record {
+          accepted-too = ordered .0;
+          each-taken = again .0 ∙ taken .1;
+          all-taken = taken .0;
+          same = same-verdict ss order (takenAll [] numbers) (ordered .1 .1, ordered .1 .0) _ _ (rw (taken .0) at (said ss _ _ (again .1))) (said ss _ _ (all .1));
+        }
+
+-- ---- every run
+
+low-kind : (x : Refused) (m : Bool) → kindOf x m ≤ 1 → x ≡ nothing
+low-kind nothing m l = refl
+low-kind Refused.pattern m l = absurd (let f : ⊥ = omega arith in f)
+low-kind Refused.log m l = absurd (let f : ⊥ = omega arith in f)
+
+-- Demand 3 for the exported runs
+pub every-run : (pattern log : List ℕ) → Bytes log → (r : Judgement) → RunNumbers pattern log r → r .kind ≤ 1 → EveryRun pattern log r
+every-run pattern log b r h l =
+    record {
+      events = one .events;
+      reads = one .reads;
+      orders = λ order reached s k.
+          let w = one .orders order reached .same (k .given) (k .run) in
+          ap (λ x. x .kind) (k .numbers) ∙ ap₂ kindOf (w .0 ∙ sym free) (w .1) ∙ sym (ap (λ x. x .kind) (h .numbers));
+    }
+  where
+    free : h .given .refused ≡ nothing
+    free = low-kind (h .given .refused) (h .given .ruling .matches) (rw (ap (λ x. x .kind) (h .numbers)) at l)
+
+    one : session.EveryRun pattern log (h .given)
+    one = run-demand pattern log b (h .given) (h .run) free

@@ -42,7 +42,7 @@ after-all ss es s h (e ∷ events) =
 -- ---- every order reached
 
 -- two verdicts say the same where the lists have matches alike
-same-verdict : (ss : List Slot) (es fs : List Event) → HasMatch ss es ↔ HasMatch ss fs → (v w : Ruling) → VerdictOf ss es v → VerdictOf ss fs w
+pub same-verdict : (ss : List Slot) (es fs : List Event) → HasMatch ss es ↔ HasMatch ss fs → (v w : Ruling) → VerdictOf ss es v → VerdictOf ss fs w
     → v .matches ≡ w .matches
 same-verdict ss es fs h v w a b =
     same-test (v .matches) (w .matches)
