@@ -34,6 +34,9 @@
  *   12  event: release by a thread that does not hold the lock
  *   13  event: fork of a thread that acted or was named by a fork or join
  *   14  event: join of a joined thread
+ *
+ * 9 to 14 are looked for at each event, before the next command is looked at: an event that breaks a rule is refused whatever follows it.
+ *
  *   16  order query: an event number of 0 or above the number of events; the offset is 0
  *
  * (15 belongs to writing a log, which is not exported.)
@@ -48,11 +51,26 @@
 extern "C" {
 #endif
 
+/* Raised whenever an answer or the layout of a session changes; bilguzor_version gives that of the library that is linked. */
+#define BILGUZOR_VERSION 2
+
 #define BILGUZOR_SLOTS 5
-#define BILGUZOR_CLOCKS 704
-#define BILGUZOR_TABLE 512
-#define BILGUZOR_PATTERN 21
-#define BILGUZOR_STATE 24
+
+/* How many numbers each part of a session has. */
+#define BILGUZOR_CLOCKS_LENGTH 704
+#define BILGUZOR_TABLE_LENGTH 512
+#define BILGUZOR_STATE_LENGTH 24
+
+/* The byte of an event, as bilguzor_session_take takes it. */
+enum bilguzor_operation {
+    BILGUZOR_READ = 1,
+    BILGUZOR_WRITE = 2,
+    BILGUZOR_ACQUIRE = 3,
+    BILGUZOR_RELEASE = 4,
+    BILGUZOR_FORK = 5,
+    BILGUZOR_JOIN = 6,
+    BILGUZOR_MARK = 7
+};
 
 /* The field `kind` of an answer. */
 enum bilguzor_kind {
@@ -85,14 +103,16 @@ typedef struct bilguzor_answer {
     size_t offset; /* 0, also for a refusal */
 } bilguzor_answer;
 
-/* A session: 2482 bytes, which may be copied. It comes from bilguzor_open alone, and only bilguzor_take changes it. */
+/* A session: 2484 bytes, none of them padding, which may be copied. It comes from bilguzor_open alone, and only bilguzor_session_take (or
+ * bilguzor_take) changes it. */
 typedef struct bilguzor_session {
-    uint16_t clocks[BILGUZOR_CLOCKS]; /* how many events of each thread come before */
-    uint16_t table[BILGUZOR_TABLE]; /* the best partial match of every set of slots */
+    uint32_t slots[BILGUZOR_SLOTS]; /* for each slot its byte, 256 times its thread and 65536 times its object, added up */
+    uint32_t size; /* how many slots there are */
+    uint16_t clocks[BILGUZOR_CLOCKS_LENGTH]; /* how many events of each thread come before */
+    uint16_t table[BILGUZOR_TABLE_LENGTH]; /* the best partial match of every set of slots */
     uint16_t taken; /* how many events are taken */
     uint16_t count; /* the count of the match, 0 without one */
-    uint8_t pattern[BILGUZOR_PATTERN]; /* for each slot its thread, its byte, and its object in two bytes; then how many slots there are */
-    uint8_t state[BILGUZOR_STATE]; /* of each thread whether it acted or is joined, and who holds each lock */
+    uint8_t state[BILGUZOR_STATE_LENGTH]; /* of each thread whether it acted or is joined, and who holds each lock */
 } bilguzor_session;
 
 /* A session that was opened. 2512 bytes. */
@@ -114,26 +134,35 @@ bilguzor_ordering bilguzor_order(const uint8_t *log, size_t log_size, size_t fir
 /* Opens a session on a pattern. A refused pattern (1 to 8) still gives a session, on the lone slot thread 0, mark 0. */
 bilguzor_opening bilguzor_open(const uint8_t *pattern, size_t pattern_size);
 
-/* Hands one event to the session whose parts are lent. `operation` is the byte of the event, `object` its variable, lock, child or mark;
+/* Hands one event to the session. `operation` is the byte of the event (enum bilguzor_operation), `object` its variable, lock, child or mark;
  * `height` counts for a write alone. Every number may be given: an operation other than 1 to 7 is refused with 3, then a thread above 7 with 5, an
  * object above its limit with 6, and so on to 14. A refused event leaves the session as it was. */
-bilguzor_answer bilguzor_take(uint16_t clocks[BILGUZOR_CLOCKS], uint16_t table[BILGUZOR_TABLE], uint16_t *taken, uint16_t *count,
-    const uint8_t pattern[BILGUZOR_PATTERN], uint8_t state[BILGUZOR_STATE], uint32_t thread, uint32_t operation, uint32_t object, int32_t height);
+static inline bilguzor_answer bilguzor_session_take(
+    bilguzor_session *session, uint32_t thread, uint32_t operation, uint32_t object, int32_t height);
 
-/* What the session whose parts are lent has found in the events taken so far: BILGUZOR_YES or BILGUZOR_NO; it refuses nothing. */
-bilguzor_judgement bilguzor_verdict(const uint16_t table[BILGUZOR_TABLE], uint16_t count, const uint8_t pattern[BILGUZOR_PATTERN]);
+/* What the session has found in the events taken so far: BILGUZOR_YES or BILGUZOR_NO; it refuses nothing. */
+static inline bilguzor_judgement bilguzor_session_verdict(const bilguzor_session *session);
 
-/* The same two, given the session whole. */
+/* BILGUZOR_VERSION of the library. */
+uint32_t bilguzor_version(void);
+
+/* The same two as the library has them, given the parts of a session. */
+bilguzor_answer bilguzor_take(const uint32_t slots[BILGUZOR_SLOTS], uint32_t size, uint16_t clocks[BILGUZOR_CLOCKS_LENGTH],
+    uint16_t table[BILGUZOR_TABLE_LENGTH], uint16_t *taken, uint16_t *count, uint8_t state[BILGUZOR_STATE_LENGTH], uint32_t thread,
+    uint32_t operation, uint32_t object, int32_t height);
+
+bilguzor_judgement bilguzor_verdict(uint32_t size, const uint16_t table[BILGUZOR_TABLE_LENGTH], uint16_t count);
+
 static inline bilguzor_answer bilguzor_session_take(
     bilguzor_session *session, uint32_t thread, uint32_t operation, uint32_t object, int32_t height)
 {
-    return bilguzor_take(session->clocks, session->table, &session->taken, &session->count, session->pattern, session->state, thread,
+    return bilguzor_take(session->slots, session->size, session->clocks, session->table, &session->taken, &session->count, session->state, thread,
         operation, object, height);
 }
 
 static inline bilguzor_judgement bilguzor_session_verdict(const bilguzor_session *session)
 {
-    return bilguzor_verdict(session->table, session->count, session->pattern);
+    return bilguzor_verdict(session->size, session->table, session->count);
 }
 
 #ifdef __cplusplus
@@ -152,7 +181,7 @@ static inline bilguzor_judgement bilguzor_session_verdict(const bilguzor_session
 BILGUZOR_ASSERT_SIZE(bilguzor_judgement, 32);
 BILGUZOR_ASSERT_SIZE(bilguzor_ordering, 16);
 BILGUZOR_ASSERT_SIZE(bilguzor_answer, 16);
-BILGUZOR_ASSERT_SIZE(bilguzor_session, 2482);
+BILGUZOR_ASSERT_SIZE(bilguzor_session, 2484);
 BILGUZOR_ASSERT_SIZE(bilguzor_opening, 2512);
 
 #endif

@@ -27,11 +27,12 @@ struct Answer {
 #[repr(C)]
 #[derive(Clone, PartialEq, Eq)]
 pub struct Session {
+    slots: [u32; SLOTS],
+    size: u32,
     clocks: [u16; 704],
     table: [u16; 512],
     taken: u16,
     count: u16,
-    pattern: [u8; 21],
     state: [u8; 24],
 }
 
@@ -43,25 +44,26 @@ struct Opening {
     session: Session,
 }
 
-const _: () = assert!(size_of::<Session>() == 2482 && size_of::<Opening>() == 2512);
+const _: () = assert!(size_of::<Session>() == 2484 && size_of::<Opening>() == 2512);
 
 extern "C" {
     fn bilguzor_run(pattern: *const u8, pattern_size: usize, log: *const u8, log_size: usize) -> Judgement;
     fn bilguzor_order(log: *const u8, log_size: usize, first: usize, second: usize) -> Ordering;
     fn bilguzor_open(pattern: *const u8, pattern_size: usize) -> Opening;
     fn bilguzor_take(
+        slots: *const u32,
+        size: u32,
         clocks: *mut u16,
         table: *mut u16,
         taken: *mut u16,
         count: *mut u16,
-        pattern: *const u8,
         state: *mut u8,
         thread: u32,
         operation: u32,
         object: u32,
         height: i32,
     ) -> Answer;
-    fn bilguzor_verdict(table: *const u16, count: u16, pattern: *const u8) -> Judgement;
+    fn bilguzor_verdict(size: u32, table: *const u16, count: u16) -> Judgement;
 }
 
 fn judged(j: Judgement) -> Judged {
@@ -107,11 +109,12 @@ impl Session {
         // Safe: the parts are arrays of the sizes that the library was compiled with, no two overlap, and they came from an opening.
         let answer = unsafe {
             bilguzor_take(
+                self.slots.as_ptr(),
+                self.size,
                 self.clocks.as_mut_ptr(),
                 self.table.as_mut_ptr(),
                 &mut self.taken,
                 &mut self.count,
-                self.pattern.as_ptr(),
                 self.state.as_mut_ptr(),
                 thread as u32,
                 operation as u32,
@@ -125,6 +128,6 @@ impl Session {
     /// What the session has found in the events taken so far.
     pub fn verdict(&self) -> Judged {
         // Safe: as above, and the library only reads the parts.
-        judged(unsafe { bilguzor_verdict(self.table.as_ptr(), self.count, self.pattern.as_ptr()) })
+        judged(unsafe { bilguzor_verdict(self.size, self.table.as_ptr(), self.count) })
     }
 }

@@ -3,8 +3,6 @@
 
 #include "bilguzor.h"
 
-enum operation { READ = 1, WRITE, ACQUIRE, RELEASE, FORK, JOIN, MARK };
-
 static void print_judgement(const char *what, bilguzor_judgement j)
 {
     if (j.kind == BILGUZOR_YES) {
@@ -59,18 +57,18 @@ static void sessions(void)
     static const uint8_t marks[] = { 7, 1, 10, 0, 7, 0, 20, 0, 7, 0, 21, 0, 7, 1, 11, 0, 0 };
     static const uint8_t nothing[] = { 0 };
     bilguzor_session session = open_session("four marks", marks, sizeof marks);
-    hand(&session, 1, MARK, 10, 0);
-    hand(&session, 1, MARK, 11, 0);
-    hand(&session, 8, MARK, 20, 0);
+    hand(&session, 1, BILGUZOR_MARK, 10, 0);
+    hand(&session, 1, BILGUZOR_MARK, 11, 0);
+    hand(&session, 8, BILGUZOR_MARK, 20, 0);
     hand(&session, 0, 0, 20, 0);
-    hand(&session, 0, MARK, 65536, 0);
-    hand(&session, 0, WRITE, 32, -400);
-    hand(&session, 0, WRITE, 31, -400);
-    hand(&session, 0, MARK, 20, 0);
-    hand(&session, 0, MARK, 21, 0);
-    hand(&session, 0, RELEASE, 3, 0);
+    hand(&session, 0, BILGUZOR_MARK, 65536, 0);
+    hand(&session, 0, BILGUZOR_WRITE, 32, -400);
+    hand(&session, 0, BILGUZOR_WRITE, 31, -400);
+    hand(&session, 0, BILGUZOR_MARK, 20, 0);
+    hand(&session, 0, BILGUZOR_MARK, 21, 0);
+    hand(&session, 0, BILGUZOR_RELEASE, 3, 0);
     bilguzor_session lone = open_session("no slot", nothing, sizeof nothing);
-    hand(&lone, 0, MARK, 0, 0);
+    hand(&lone, 0, BILGUZOR_MARK, 0, 0);
 }
 
 /* thread 1 mark 11; thread 0 writes variable 0, height -400 mm */
@@ -103,6 +101,7 @@ static void orders(void)
 
 int main(void)
 {
+    printf("version %u%s\n", (unsigned)bilguzor_version(), bilguzor_version() == BILGUZOR_VERSION ? "" : ", which is not the header's");
     sessions();
     runs();
     orders();

@@ -24,11 +24,12 @@ struct Answer {
 
 #[repr(C)]
 struct Session {
+    slots: [u32; 5],
+    size: u32,
     clocks: [u16; 704],
     table: [u16; 512],
     taken: u16,
     count: u16,
-    pattern: [u8; 21],
     state: [u8; 24],
 }
 
@@ -44,7 +45,7 @@ struct Opening {
 const _: () = assert!(std::mem::size_of::<Judgement>() == 32);
 const _: () = assert!(std::mem::size_of::<Ordering>() == 16);
 const _: () = assert!(std::mem::size_of::<Answer>() == 16);
-const _: () = assert!(std::mem::size_of::<Session>() == 2482);
+const _: () = assert!(std::mem::size_of::<Session>() == 2484);
 const _: () = assert!(std::mem::size_of::<Opening>() == 2512);
 
 extern "C" {
@@ -52,19 +53,23 @@ extern "C" {
     fn bilguzor_order(log: *const u8, log_size: usize, first: usize, second: usize) -> Ordering;
     fn bilguzor_open(pattern: *const u8, pattern_size: usize) -> Opening;
     fn bilguzor_take(
+        slots: &[u32; 5],
+        size: u32,
         clocks: &mut [u16; 704],
         table: &mut [u16; 512],
         taken: &mut u16,
         count: &mut u16,
-        pattern: &[u8; 21],
         state: &mut [u8; 24],
         thread: u32,
         operation: u32,
         object: u32,
         height: i32,
     ) -> Answer;
-    fn bilguzor_verdict(table: &[u16; 512], count: u16, pattern: &[u8; 21]) -> Judgement;
+    fn bilguzor_verdict(size: u32, table: &[u16; 512], count: u16) -> Judgement;
+    fn bilguzor_version() -> u32;
 }
+
+const VERSION: u32 = 2;
 
 const NO: u8 = 0;
 const YES: u8 = 1;
@@ -92,11 +97,12 @@ impl Session {
     fn take(&mut self, thread: u32, operation: u32, object: u32, height: i32) -> Answer {
         unsafe {
             bilguzor_take(
+                &self.slots,
+                self.size,
                 &mut self.clocks,
                 &mut self.table,
                 &mut self.taken,
                 &mut self.count,
-                &self.pattern,
                 &mut self.state,
                 thread,
                 operation,
@@ -107,7 +113,7 @@ impl Session {
     }
 
     fn verdict(&self) -> Judgement {
-        unsafe { bilguzor_verdict(&self.table, self.count, &self.pattern) }
+        unsafe { bilguzor_verdict(self.size, &self.table, self.count) }
     }
 }
 
@@ -201,6 +207,8 @@ fn orders() {
 }
 
 fn main() {
+    let version = unsafe { bilguzor_version() };
+    println!("version {version}{}", if version == VERSION { "" } else { ", which is not the header's" });
     sessions();
     runs();
     orders();

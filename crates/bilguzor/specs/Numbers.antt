@@ -10,6 +10,10 @@ use Rattle.order.specs.Query as order
 use Rattle.bilguzor.specs.declared.Judgement.{Judgement}
 use Rattle.bilguzor.specs.declared.Ordering.{Ordering}
 
+-- the header's number of this library's answers and layouts
+abbrev pub version : ℕ
+version = 2
+
 -- The kinds: 0 none, 1 a match, 2 the pattern is refused, 3 the log is refused.
 abbrev pub kindOf : Refused → Bool → ℕ
 kindOf nothing matches = cond matches 1 0
