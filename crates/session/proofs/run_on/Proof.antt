@@ -1,214 +1,159 @@
-use Rattle.event.specs.declared.Event.{Event}
-use Rattle.event.specs.declared.Slot.{Slot}
-use Rattle.event.specs.Limits.{events, slots as slotLimit}
-use Rattle.event.specs.Slots.{fitting, fits, noSlot, threadsOf}
-use Rattle.event.proofs.Filled.{map-at}
-use Rattle.command.specs.Reading.{command, closed}
-use Rattle.command.proofs.Inversion.{goes-on as onward}
-use Rattle.log.specs.Whole.{GoodPattern, patternOf}
-use Rattle.log.specs.Step.{steppedIs}
-use Rattle.log.proofs.Steps.{the-end}
-use Rattle.table.specs.Keys.{KeysOf}
-use Rattle.table.specs.Table.{offered, foundIn}
-use Rattle.session.specs.declared.Session.{Session}
-use Rattle.session.specs.Model.{keptOf, advanced}
-use Rattle.session.proofs.Described.{no-row}
-use Rattle.session.proofs.Steps.{room, kept-matched, kept-searched, kept-idle, advanced-is}
-use Rattle.session.proofs.Running.{Running, started, TakenAt, taken-at, ended, broke, goes-on}
-use lib.ListN.{length, getD}
-use mathlib.Core.List.{List, [], _∷_}
-use mathlib.Core.Bool.{Bool, true, false}
-use mathlib.Core.Path.{_≡_, refl, sym, ap, _∙_}
+use Prim.Native.Nat.{ℕ, zero, suc, _+_, _*_, _-_, _<_, _≤_, max}
 use native.Mathlib.Omega.{arith}
-use Prim.Native.Nat.{ℕ, zero, suc, _+_, _-_, _≤_, _<_}
+use native.Mathlib.Numerals.{add-one}
+use mathlib.Core.Path.{_≡_, refl, ap, sym, _∙_}
+use mathlib.Core.List.{List, [], _∷_, _++_}
+use lib.ListN.{length, getD, set, length-set}
 use borrow.Author.Needs.{needs}
-use borrow.Author.Tests.{not-true}
 use Rattle.session.proofs.run_on.Statement.{statement}
 use Rattle.session.proofs.run_on.Tie as tie
-
-record Kept (log : List ℕ) (p₀ z : Session) (slots : List Slot) (size : ℕ) (acting keys : List ℕ) (at : ℕ) : Type 0 where
-  few : z .taken ≤ events
-  slots-are : slots ≡ z .pattern .slots
-  size-is : size ≡ z .pattern .size
-  acting-is : acting ≡ threadsOf slots
-  keys-are : KeysOf slots keys
-  running : (ss : List Slot) → GoodPattern ss → p₀ .pattern ≡ patternOf ss → Running ss log z at
+use Rattle.session.proofs.run_on.Reads as reads
+use Rattle.session.proofs.run_on.Lts as lts
+use Rattle.clock.proofs.advance.Reads as advance-reads
+use Rattle.command.proofs.decode.Reads as decode-reads
+use Rattle.command.proofs.key_at.Reads as key-at-reads
+use Rattle.event.proofs.fitting.Reads as fitting-reads
+use Rattle.event.proofs.threads_of.Reads as threads-of-reads
+use Rattle.rules.proofs.admit.Reads as admit-reads
+use Rattle.session.proofs.Session.verdict.Reads as verdict-reads
+use Rattle.session.proofs.count_if.Reads as count-if-reads
+use Rattle.session.proofs.fresh.Reads as fresh-reads
+use Rattle.session.proofs.log_refused.Reads as log-refused-reads
+use Rattle.session.proofs.outcome_of.Reads as outcome-of-reads
+use Rattle.table.proofs.found.Reads as found-reads
+use Rattle.table.proofs.keys.Reads as keys-reads
+use Rattle.table.proofs.offer.Reads as offer-reads
+use Rattle.table.proofs.wants.Reads as wants-reads
 
 abbrev Inv-loop : tie.InvT-loop
-Inv-loop log z₀ slots size acting keys at₀ z at = Kept log z₀ z slots size acting keys at
+Inv-loop log z₀ slots size acting keys at₀ z at = ?
 
 abbrev μ-loop : tie.MeasureT-loop
-μ-loop log z₀ slots size acting keys at₀ z at = length log - at
+μ-loop log z₀ slots size acting keys at₀ z at = ?
 
--- ---- where an event was read
-
-abbrev Read : Type 0
-Read = tie.After-known-told Inv-loop μ-loop
-
-is-event : (t : Read) → steppedIs (t .before .before .before .step .result) ≡ command (t .before .found .given .0 .0) (t .before .found .given .0 .1 .0)
-is-event t = ap steppedIs (t .before .found .given .1)
-
-taken-there : (t : Read)
-    → TakenAt (t .before .before .before .before .before .before .before .before .before .before .before .args .log .now) (t .before .before .before .before .before .loop .z .state) (t .before .before .before .before .before .loop .z .taken) (t .before .before .before .before .before .loop .at)
-    (t .before .found .given .0 .0) (t .before .found .given .0 .1 .0) (t .before .before .before .step .last .1 .1 .0)
-taken-there t =
-    let s = t .before .before .before .step in
-    let l = t .before .before .before .before .before .loop in
-    taken-at _ (l .z .state) (l .z .taken) (l .at) _ _ _ (steppedIs (s .result)) (s .ensures .0) (s .ensures .1 .0) (is-event t)
-
-few-more : (t : Read) → t .before .before .before .before .before .loop .z .taken < events
-few-more t = let l = t .before .before .before .before .before .loop .z in room (l .state) (l .taken) _ (taken-there t .none)
-
-less : (t : Read) → length (t .before .before .before .before .before .before .before .before .before .before .before .args .log .now) - t .before .found .given .0 .1 .0 < length (t .before .before .before .before .before .before .before .before .before .before .before .args .log .now) - t .before .before .before .before .before .loop .at
-less t = let m = onward true _ (t .before .before .before .before .before .loop .at) _ _ (taken-there t .decoded) in omega arith
-
--- the session once the event is taken
-again : (t : Read) (after : Session)
-    → ((ss : List Slot) → GoodPattern ss → t .before .before .before .before .before .before .before .before .before .fresh .result .pattern ≡ patternOf ss → after ≡ advanced (t .before .before .before .before .before .loop .z) (t .before .found .given .0 .0)) → after .pattern ≡ t .before .before .before .before .before .loop .z .pattern
-    → after .state ≡ t .before .before .before .step .last .1 .1 .0 → after .taken ≡ t .before .before .before .before .before .loop .z .taken + 1
-    → Kept (t .before .before .before .before .before .before .before .before .before .before .before .args .log .now) (t .before .before .before .before .before .before .before .before .before .fresh .result) after (t .before .before .before .before .before .before .before .before .before .before .before .args .p .slots) (t .before .before .before .before .before .before .before .before .before .before .before .args .p .size) (t .before .before .before .before .before .before .before .threads-of .result) (t .before .before .before .before .before .before .keys .result) (t .before .found .given .0 .1 .0)
-again t after p q s n =
-    let l = t .before .before .before .before .before .loop in
-    record {
-      few = let m = few-more t in omega arith;
-      slots-are = l .inv .slots-are ∙ ap (λ x. x .slots) (sym q);
-      size-is = l .inv .size-is ∙ ap (λ x. x .size) (sym q);
-      acting-is = l .inv .acting-is;
-      keys-are = l .inv .keys-are;
-      running = λ ss g r. goes-on ss (l .z) (l .inv .running ss g r) (t .before .before .before .step .ensures .1 .1) _ _ (is-event t) after (p ss g r) s n;
-    }
-
+-- src/lib.rt:207:17
 fresh-requires : tie.Need-fresh-requires Inv-loop μ-loop
-fresh-requires c κs = search needs
+fresh-requires c κs = ?
 
+-- src/lib.rt:210:9
 threads-of-requires : tie.Need-threads-of-requires Inv-loop μ-loop
-threads-of-requires c κs = search needs
+threads-of-requires c κs = ?
 
+-- src/lib.rt:211:9
 keys-requires : tie.Need-keys-requires Inv-loop μ-loop
-keys-requires c κs = search needs
+keys-requires c κs = ?
 
+-- src/lib.rt:213:5
 loop-holds : tie.Need-loop-holds Inv-loop μ-loop
-loop-holds c =
-    let e = c .before .before .before .fresh .ensures in
-    record {
-      few = rw e (omega arith);
-      slots-are = sym (ap (λ x. x .pattern .slots) e);
-      size-is = sym (ap (λ x. x .pattern .size) e);
-      acting-is = c .before .threads-of .ensures;
-      keys-are = c .keys .ensures;
-      running = λ ss g p. started ss _ (c .before .before .before .fresh .result) _ g e p;
-    }
+loop-holds c = ?
 
-cast-taken : tie.Need-cast-taken Inv-loop μ-loop
-cast-taken c = let l = c .loop .inv .few in omega arith
+-- src/lib.rt:215:13
+decode-requires : tie.Need-decode-requires Inv-loop μ-loop
+decode-requires c κs = ?
 
-step-requires : tie.Need-step-requires Inv-loop μ-loop
-step-requires c κs = search needs
+-- src/lib.rt:216:32
+enum-known-read : tie.Need-enum-known-read Inv-loop μ-loop
+enum-known-read c = ?
 
-enum-known-found : tie.Need-enum-known-found Inv-loop μ-loop
-enum-known-found c = search needs
+-- src/lib.rt:217:36
+enum-known-read-2 : tie.Need-enum-known-read-2 Inv-loop μ-loop
+enum-known-read-2 c = ?
 
-enum-known-found-2 : tie.Need-enum-known-found-2 Inv-loop μ-loop
-enum-known-found-2 c = search needs
-
+-- src/lib.rt:218:35
 verdict-requires : tie.Need-verdict-requires Inv-loop μ-loop
-verdict-requires c κs = search needs
+verdict-requires c κs = ?
 
+-- src/lib.rt:218:17
 outcome-of-requires : tie.Need-outcome-of-requires Inv-loop μ-loop
-outcome-of-requires c κs = search needs
+outcome-of-requires c κs = ?
 
+-- src/lib.rt:218:17
 returns : tie.Need-returns Inv-loop μ-loop
-returns c =
-    let l = c .before .before .before .before .before .before .loop in
-    let s = c .before .before .before .before .step in
-    let q = the-end (s .result) (c .before .before .before .match .keys2) (c .before .before .match2 .keys2) in
-    λ ss g p. rw (c .outcome-of .ensures)
-    (ended ss (l .z) (l .inv .running ss g (ap (λ x. x .pattern) (c .before .before .before .before .before .before .before .before .before .before .fresh .ensures) ∙ p)) (s .ensures .1 .1) q _ (c .before .verdict .ensures .0))
+returns c = ?
 
+-- src/lib.rt:220:13
 log-refused-requires : tie.Need-log-refused-requires Inv-loop μ-loop
-log-refused-requires c κs = search needs
+log-refused-requires c κs = ?
 
+-- src/lib.rt:220:13
 returns-2 : tie.Need-returns-2 Inv-loop μ-loop
-returns-2 c =
-    let l = c .before .before .before .before .before .before .before .loop in
-    λ ss g p. rw (c .log-refused .ensures)
-    (broke ss (l .z) (l .inv .running ss g (ap (λ x. x .pattern) (c .before .before .before .before .before .before .before .before .before .before .before .fresh .ensures) ∙ p)) (c .before .before .before .before .before .step .ensures .1 .1) _ _ (ap steppedIs (c .before .before .found2 .given .1)))
+returns-2 c = ?
 
+-- src/lib.rt:222:21
+cast-taken : tie.Need-cast-taken Inv-loop μ-loop
+cast-taken c = ?
+
+-- src/lib.rt:223:13
+admit-requires : tie.Need-admit-requires Inv-loop μ-loop
+admit-requires c κs = ?
+
+-- src/lib.rt:225:13
+log-refused-requires-2 : tie.Need-log-refused-requires-2 Inv-loop μ-loop
+log-refused-requires-2 c κs = ?
+
+-- src/lib.rt:225:13
+returns-3 : tie.Need-returns-3 Inv-loop μ-loop
+returns-3 c = ?
+
+-- src/lib.rt:227:18
 add-n : tie.Need-add-n Inv-loop μ-loop
-add-n c = let m = few-more c in omega arith
+add-n c = ?
 
+-- src/lib.rt:227:17
 cast-n : tie.Need-cast-n Inv-loop μ-loop
-cast-n c = let m = few-more c in omega arith
+cast-n c = ?
 
+-- src/lib.rt:213:5
 loop-less : tie.Need-loop-less Inv-loop μ-loop
-loop-less c = less (c .before)
+loop-less c = ?
 
+-- src/lib.rt:213:5
 loop-again : tie.Need-loop-again Inv-loop μ-loop
-loop-again c =
-    let t = c .before in
-    let z = t .before .before .before .before .before .loop .z in
-    again t _ (λ ss g r. advanced-is z _ _ (kept-matched _ _ _ (keptOf z) _ _ (taken-there t .settled) (c .if1 .taken))) refl refl refl
+loop-again c = ?
 
+-- src/lib.rt:234:13
 advance-requires : tie.Need-advance-requires Inv-loop μ-loop
-advance-requires c κs = search needs
+advance-requires c κs = ?
 
+-- src/lib.rt:235:32
 key-at-requires : tie.Need-key-at-requires Inv-loop μ-loop
-key-at-requires c κs = search needs
+key-at-requires c κs = ?
 
+-- src/lib.rt:235:13
 wants-requires : tie.Need-wants-requires Inv-loop μ-loop
-wants-requires c κs = search needs
+wants-requires c κs = ?
 
+-- src/lib.rt:213:5
 loop-less-2 : tie.Need-loop-less-2 Inv-loop μ-loop
-loop-less-2 c = less (c .before .before .before .before .before .before)
+loop-less-2 c = ?
 
--- an event that fits none of the first n slots is marked at none of them
-unfit : (slots : List Slot) (e : Event) (n : ℕ) → ((j : ℕ) → j < n → fits (getD slots j noSlot) e ≡ false) → (j : ℕ) → j < n → getD (fitting slots e) j false ≡ false
-unfolding fitting
-unfit [] e n none j l = refl
-unfit (s ∷ slots) e n none zero l = none 0 l
-unfit (s ∷ slots) e n none (suc j) l = unfit slots e (n - 1) (λ i u. none (suc i) (omega arith)) j (omega arith)
-
+-- src/lib.rt:213:5
 loop-again-2 : tie.Need-loop-again-2 Inv-loop μ-loop
-loop-again-2 c =
-    let t = c .before .before .before .before .before .before in
-    let l = t .before .before .before .before .before .loop in
-    let e : Event = t .before .found .given .0 .0 in
-    let clocked = c .before .before .before .advance .ensures in
-    let searching = c .before .before .before .before .before .if1 .left in
-    let alone = c .before .wants .ensures .1 _ e (l .inv .keys-are) (c .before .before .key-at .ensures .1 true e _ (taken-there t .decoded)) (not-true _ (c .if2 .taken)) in
-    again t _
-    (λ ss g r. advanced-is (l .z) e _
-    (kept-idle _ _ _ (keptOf (l .z)) e _ (taken-there t .settled) _ _ searching (clocked .0) (clocked .1 .0)
-    (unfit (l .z .pattern .slots) e slotLimit (rw (l .inv .slots-are) at alone)) (no-row ss _ (l .z) (l .inv .running ss g r .described) searching)))
-    refl refl refl
+loop-again-2 c = ?
 
+-- src/lib.rt:238:13
 fitting-requires : tie.Need-fitting-requires Inv-loop μ-loop
-fitting-requires c κs = search needs
+fitting-requires c κs = ?
 
+-- src/lib.rt:239:9
 offer-requires : tie.Need-offer-requires Inv-loop μ-loop
-offer-requires c κs = search needs
+offer-requires c κs = ?
 
+-- src/lib.rt:240:13
 found-requires : tie.Need-found-requires Inv-loop μ-loop
-found-requires c κs = search needs
+found-requires c κs = ?
 
+-- src/lib.rt:241:19
 count-if-requires : tie.Need-count-if-requires Inv-loop μ-loop
-count-if-requires c κs = search needs
+count-if-requires c κs = ?
 
+-- src/lib.rt:213:5
 loop-less-3 : tie.Need-loop-less-3 Inv-loop μ-loop
-loop-less-3 c = less (c .before .before .before .before .before .before .before .before .before .before .before .before .before)
+loop-less-3 c = ?
 
+-- src/lib.rt:213:5
 loop-again-3 : tie.Need-loop-again-3 Inv-loop μ-loop
-loop-again-3 c =
-    let t = c .before .before .before .before .before .before .before .before .before .before .before .before .before in
-    let l = t .before .before .before .before .before .loop in
-    let e : Event = t .before .found .given .0 .0 in
-    let clocked = c .before .before .before .before .before .before .before .before .before .before .advance .ensures in
-    let offer = c .before .before .before .before .offer .ensures .0 in
-    again t _
-    (λ ss g r. advanced-is (l .z) e _
-    (kept-searched _ _ _ (keptOf (l .z)) e _ (taken-there t .settled) _ _ _ _ _ (c .before .before .before .before .before .before .before .before .before .before .before .before .if1 .left) (clocked .0) (clocked .1 .0)
-    (rw (c .before .before .before .before .before .before .fitting .ensures, l .inv .acting-is, l .inv .slots-are, l .inv .size-is) at offer) (rw (l .inv .size-is) at (c .before .found3 .ensures .0)) (c .count-if .ensures)))
-    refl refl refl
+loop-again-3 c = ?
 
 pub run-on-spec : {M : Type 1} → statement M
 run-on-spec =
@@ -220,15 +165,18 @@ run-on-spec =
     threads-of-requires
     keys-requires
     loop-holds
-    cast-taken
-    step-requires
-    enum-known-found
-    enum-known-found-2
+    decode-requires
+    enum-known-read
+    enum-known-read-2
     verdict-requires
     outcome-of-requires
     returns
     log-refused-requires
     returns-2
+    cast-taken
+    admit-requires
+    log-refused-requires-2
+    returns-3
     add-n
     cast-n
     loop-less
