@@ -2,7 +2,6 @@
 use Prim.Native.Nat.{ℕ, _+_}
 use native.Mathlib.Omega.{arith}
 use mathlib.Core.Path.{_≡_, refl, sym, ap, _∙_}
-use mathlib.Core.Bool.{true}
 use mathlib.Core.List.{List, [], _∷_, reverse, reverse-cons, reverse-reverse}
 use lib.ListN.{length, replicate}
 use Rattle.event.specs.declared.Event.{Event}
@@ -10,12 +9,9 @@ use Rattle.event.specs.declared.Slot.{Slot}
 use Rattle.event.specs.Limits.{slots}
 use Rattle.rules.proofs.StateLaws.{nothing-yet}
 use Rattle.command.specs.Bytes.{Bytes}
-use Rattle.rules.specs.State.{refusalBy, stateAfter}
-use Rattle.command.specs.Reading.{Reading, command, closed, refused as refusedAt, decode}
-use Rattle.command.proofs.Held.{was-kept}
+use Rattle.command.specs.Reading.{Reading, command, closed, refused as refusedAt}
 use Rattle.log.specs.declared.Pattern.{Pattern}
 use Rattle.log.specs.Whole.{GoodPattern, patternOf, Whole, accepted, refused, Outcome, passed, outcomeOf, patternFrom, readPattern}
-use Rattle.log.specs.Step.{stepBy, handedTo, stateBy}
 use Rattle.log.proofs.PatternRoundTrip.{pattern-iff}
 use Rattle.log.proofs.Steps.{History}
 use Rattle.log.proofs.LogWalk as walk
@@ -47,20 +43,6 @@ given-verdict v = go (v .found) refl
     go : (f : Found) → v .found ≡ f → judgedIs (judgedBy v) ≡ record { refused = nobody; refusal = refusal 0 0; ruling = verdictIs v }
     go (Match n) q = rw q
     go None q = rw q
-
--- an event that a step took, by the state alone: it was decoded, gets no number, and the state is settled
-pub record TakenAt (bytes state : List ℕ) (taken at : ℕ) (e : Event) (next : ℕ) (after : List ℕ) : Type 0 where
-  pub decoded : decode true bytes at ≡ command e next
-  pub none : refusalBy state taken e ≡ 0
-  pub settled : after ≡ stateAfter state taken e
-
-pub taken-at : (bytes state : List ℕ) (taken at : ℕ) (e : Event) (next : ℕ) (after : List ℕ) (outcome : Reading Event) → outcome ≡ stepBy state taken bytes at
-    → after ≡ stateBy state taken bytes at → outcome ≡ command e next → TakenAt bytes state taken at e next after
-unfolding stepBy stateBy
-taken-at bytes state taken at e next after outcome p s q =
-    let k = was-kept (refusalBy state taken) (λ e. e) at (decode true bytes at) e next (sym p ∙ q) in
-    let d : decode true bytes at ≡ command e next = k .decoded ∙ ap (λ (x : Event). command x next) (k .is) in
-    record { decoded = d; none = rw (k .is) at (k .none); settled = s ∙ ap (handedTo state taken) d }
 
 -- one step of the log
 module _ (ss : List Slot) {bytes state : List ℕ} (z : Session) {at : ℕ} {outcome : Reading Event} (r : Running ss bytes z at)
