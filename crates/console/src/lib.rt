@@ -1,6 +1,5 @@
-// What test programs print, and how their vectors are spelled.
+// What test programs print.
 // Used by test programs only: proved safe; what they print is compared with stored output.
-pub mod spelled;
 
 pub fn text(s: &[u8]) {
     io::write_all(1, s);

@@ -1,7 +1,6 @@
 // The order of a log of at most eight events, computed from document 01's words: dependent pairs, and chains of them rising in the log.
 // Used by test programs only: proved safe, compared and not specified.
 pub mod drawn;
-pub mod marks;
 
 use command::EventRead;
 use event::Event;
