@@ -1,6 +1,5 @@
 // Events handed to the rules one by one: the refusal, and the state unchanged by it.
 use crate::buffers;
-use crate::commands;
 use event::Event;
 
 // The state of no events.
@@ -11,10 +10,6 @@ pub(crate) fn renew(state: &mut [u8; rules::STATE]) {
 // Hands over one event, the number of events taken before it given.
 pub(crate) fn admit(state: &mut [u8; rules::STATE], taken: usize, e: Event) {
     let before = *state;
-    console::text(b"admit after ");
-    console::number(taken as u64);
-    console::text(b", ");
-    commands::show_event(e);
     let k = rules::admit(state, taken, e);
     answer(k, &before, state);
 }

@@ -1,4 +1,4 @@
-// The words of the vectors: a word is told by its first letter, and one that goes on with -slot asks the same of a slot or a pattern.
+// The words of the vectors: a word is told by its first letter, and with a hyphen in it asks the same of a slot or a pattern.
 use crate::commands;
 use crate::judged;
 use crate::patterns;
@@ -12,33 +12,46 @@ pub struct Asked {
     pub second: usize,
 }
 
-// The bytes of the first field, behind the head, and those of the second.
-pub(crate) fn print(q: Asked, name: &[u8], bytes: &[u8], other: &[u8]) {
+// Prints the title and the answer. The bytes are those of the first field, behind the head, and of the second.
+pub(crate) fn print(q: Asked, title: &[u8], bytes: &[u8], other: &[u8]) {
+    console::text(title);
+    after_title(q.word);
+    answer(q, bytes, other);
+    console::text(b"\n");
+}
+
+// A space stands before each byte that is shown, and what is judged has lines of its own.
+fn after_title(word: u8) {
+    match word {
+        b'b' | b'd' => console::text(b":"),
+        b'j' => {}
+        _ => console::text(b": "),
+    }
+}
+
+fn answer(q: Asked, bytes: &[u8], other: &[u8]) {
     let word = q.word;
     match word {
-        // pattern NAME: PATTERN; kept NAME: PATTERN; log NAME: LOG
-        b'p' => patterns::pattern(name, bytes),
-        b'k' => patterns::kept(name, bytes),
-        b'l' => whole::log(name, bytes),
-        // command NAME: BYTES | PLACE
-        b'c' => commands::at(q.tall, name, bytes, q.first),
+        // read: LOG; read-pattern: PATTERN; kept-slots: PATTERN
+        b'r' => whole::read(q.tall, bytes),
+        b'k' => patterns::kept(bytes),
+        // command: BYTES | PLACE; back: COMMAND
+        b'c' => commands::at(bytes, q.first, q.tall),
+        b'b' => commands::back(commands::of(bytes, q.tall), q.tall),
         // write: COMMAND | PLACE | ROOM; end: | PLACE | ROOM
-        b'w' => commands::write(q.tall, commands::of(bytes, q.tall), q.first, q.second),
+        b'w' => commands::write(commands::of(bytes, q.tall), q.tall, q.first, q.second),
         b'e' => commands::end(q.first, q.second),
-        // back: COMMAND; trip NAME: LOG; dump NAME: LOG | SHOWN
-        b'b' => commands::back(q.tall, commands::of(bytes, q.tall)),
-        b't' => whole::trip(q.tall, name, bytes),
-        b'd' => whole::dump(q.tall, name, bytes, q.first),
-        // fits: EVENT | SLOT; slot: EVENT
-        b'f' => commands::fits(commands::of(bytes, true), commands::of(other, false)),
-        b's' => commands::slot(commands::of(bytes, true)),
-        // order NAME: LOG | FIRST | SECOND
-        b'o' => judged::order(name, bytes, q.first, q.second),
-        // judge NAME: LOG | PATTERN; run NAME: LOG | PATTERN; most: EVENT | PATTERN | COUNT
-        b'j' => judged::both(name, bytes, other),
-        b'r' => judged::run(name, bytes, other),
-        b'm' => judged::most(commands::of(bytes, true), other, q.second),
+        // trip: LOG; dump: LOG | SHOWN
+        b't' => whole::trip(q.tall, bytes),
+        b'd' => whole::dump(q.tall, bytes, q.first),
+        // fit: EVENT | SLOT; slot: EVENT
+        b'f' => commands::fit(commands::of(bytes, true), commands::of(other, false)),
+        b's' => commands::show_slot(event::slot_of(commands::of(bytes, true))),
+        // order: LOG | FIRST | SECOND; judge: LOG | PATTERN; verdict: LOG | PATTERN; more: EVENT | PATTERN | COUNT
+        b'o' => judged::order(bytes, q.first, q.second),
+        b'j' => judged::both(bytes, other),
+        b'v' => judged::run(bytes, other),
+        b'm' => judged::more(commands::of(bytes, true), other, q.second),
         _ => console::text(b"NO SUCH WORD"),
     }
-    console::text(b"\n");
 }

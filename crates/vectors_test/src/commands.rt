@@ -1,4 +1,4 @@
-// One command: read at a place, written at a place of a buffer of bytes EE; which events fit which slots.
+// One command: read at a place, written at a place of a buffer of bytes EE; whether an event fits a slot.
 use crate::buffers;
 use crate::buffers::NOWHERE;
 use command::Decoded;
@@ -21,26 +21,25 @@ pub(crate) fn of(bytes: &[u8], tall: bool) -> Event {
     }
 }
 
-fn object(operation: &[u8], n: u64) {
-    console::text(operation);
-    console::number(n);
+pub(crate) fn show_slot(s: Slot) {
+    console::numbered(b"thread ", s.thread as u64);
+    let op = s.operation;
+    show_operation(op);
 }
 
-pub(crate) fn show_slot(s: Slot) {
-    object(b"thread ", s.thread as u64);
-    let op = s.operation;
+fn show_operation(op: SlotOperation) {
     match op {
-        SlotOperation::Read { variable } => object(b" read ", variable as u64),
-        SlotOperation::Write { variable } => object(b" write ", variable as u64),
-        SlotOperation::Acquire { lock } => object(b" acquire ", lock as u64),
-        SlotOperation::Release { lock } => object(b" release ", lock as u64),
-        SlotOperation::Fork { child } => object(b" fork ", child as u64),
-        SlotOperation::Join { child } => object(b" join ", child as u64),
-        SlotOperation::Mark { mark } => object(b" mark ", mark as u64),
+        SlotOperation::Read { variable } => console::numbered(b" read ", variable as u64),
+        SlotOperation::Write { variable } => console::numbered(b" write ", variable as u64),
+        SlotOperation::Acquire { lock } => console::numbered(b" acquire ", lock as u64),
+        SlotOperation::Release { lock } => console::numbered(b" release ", lock as u64),
+        SlotOperation::Fork { child } => console::numbered(b" fork ", child as u64),
+        SlotOperation::Join { child } => console::numbered(b" join ", child as u64),
+        SlotOperation::Mark { mark } => console::numbered(b" mark ", mark as u64),
     }
 }
 
-pub(crate) fn show_event(e: Event) {
+fn show_event(e: Event) {
     show_slot(event::slot_of(e));
     let op = e.operation;
     if let Operation::Write {
@@ -61,16 +60,6 @@ fn show_height(mm: i32) {
     let below = -1 - mm;
     console::text(b"-");
     console::number(below as u64 + 1);
-}
-
-// An event, or the word slot and the slot that it fits.
-fn show(e: Event, tall: bool) {
-    if tall {
-        show_event(e);
-        return;
-    }
-    console::text(b"slot ");
-    show_slot(event::slot_of(e));
 }
 
 // Shows what stands at a place, and answers the place after it.
@@ -100,26 +89,15 @@ fn show_slot_at(bytes: &[u8], place: usize) -> usize {
             return next;
         }
         SlotRead::End => console::text(b"end"),
-        SlotRead::PatternRefused { number, offset } => {
-            console::text(b"pattern ");
-            console::refusal(number, offset);
-        }
+        SlotRead::PatternRefused { number, offset } => console::pattern_refusal(number, offset),
     }
     NOWHERE
 }
 
-pub(crate) fn at(tall: bool, name: &[u8], bytes: &[u8], place: usize) {
-    if tall {
-        object(b"event at ", place as u64);
-    } else {
-        object(b"slot at ", place as u64);
-    }
-    console::text(b", ");
-    console::text(name);
-    console::text(b": ");
+pub(crate) fn at(bytes: &[u8], place: usize, tall: bool) {
     let next = show_at(bytes, place, tall);
     if next != NOWHERE {
-        object(b", next ", next as u64);
+        console::numbered(b", next ", next as u64);
     }
 }
 
@@ -132,81 +110,62 @@ fn put(buffer: &mut [u8], at: usize, e: Event, tall: bool) -> Written {
 }
 
 // Writes into the first `room` of ten bytes, and shows all ten.
-pub(crate) fn write(tall: bool, e: Event, at: usize, room: usize) {
-    console::text(b"write ");
-    show(e, tall);
-    show_place(at, room);
+pub(crate) fn write(e: Event, tall: bool, at: usize, room: usize) {
     if 10 < room {
         return;
     }
     let mut buffer = [0xEEu8; 10];
     let w = put(&mut buffer[..room], at, e, tall);
-    written(w, &buffer);
+    show_written(w);
+    show_buffer(&buffer);
 }
 
 pub(crate) fn end(at: usize, room: usize) {
-    console::text(b"write closing 00");
-    show_place(at, room);
     if 10 < room {
         return;
     }
     let mut buffer = [0xEEu8; 10];
     let w = writer::write_end(&mut buffer[..room], at);
-    written(w, &buffer);
+    show_written(w);
+    show_buffer(&buffer);
 }
 
-fn show_place(at: usize, room: usize) {
-    object(b" at ", at as u64);
-    object(b" of ", room as u64);
-    console::text(b": ");
-}
-
-fn written(w: Written, buffer: &[u8; 10]) {
+fn show_written(w: Written) {
     match w {
-        Written::Next { at } => object(b"next ", at as u64),
+        Written::Next { at } => console::numbered(b"next ", at as u64),
         Written::Refused { number, offset } => console::refusal(number, offset),
     }
+}
+
+fn show_buffer(buffer: &[u8; 10]) {
     let fresh = [0xEEu8; 10];
+    console::text(b", buffer");
     if buffers::same(buffer, &fresh) {
-        console::text(b", buffer unchanged");
+        console::text(b" unchanged");
         return;
     }
-    console::text(b", buffer");
     console::bytes(buffer);
 }
 
-// Writes a command behind one byte, and reads it back there.
-pub(crate) fn back(tall: bool, e: Event) {
+// Writes a command behind one byte, shows the buffer, and reads the command back there.
+pub(crate) fn back(e: Event, tall: bool) {
     let mut buffer = [0xEEu8; 9];
-    console::text(b"written and read, ");
-    show(e, tall);
     let to = buffers::next_place(put(&mut buffer, 1, e, tall));
-    console::text(b":");
     console::bytes(&buffer);
     console::text(b": ");
-    if show_at(&buffer, 1, tall) == to {
+    let next = show_at(&buffer, 1, tall);
+    if next == to {
         console::text(b", next place agrees");
         return;
     }
     console::text(b", OTHER NEXT PLACE");
 }
 
-// Whether the event fits the slot, which is the one that `like` fits.
-pub(crate) fn fits(e: Event, like: Event) {
-    let s = event::slot_of(like);
-    show(like, false);
-    console::text(b", event ");
-    show_event(e);
-    if event::fit(s, e) {
-        console::text(b": fits");
+// Whether the event fits the slot that `like` fits.
+pub(crate) fn fit(e: Event, like: Event) {
+    if event::fit(event::slot_of(like), e) {
+        console::text(b"fits");
         return;
     }
-    console::text(b": does not fit");
-}
-
-pub(crate) fn slot(e: Event) {
-    console::text(b"slot of ");
-    show_event(e);
-    console::text(b": ");
-    show_slot(event::slot_of(e));
+    console::text(b"does not fit");
 }

@@ -4,19 +4,12 @@ use event::Event;
 use order::Order;
 use session::Answer;
 use session::Found;
-use session::Judged;
 use session::Outcome;
 use session::Session;
 use session::Verdict;
 
 // Whether one event of the log comes before another or is it.
-pub(crate) fn order(name: &[u8], log: &[u8], first: usize, second: usize) {
-    console::text(name);
-    console::text(b", ");
-    console::number(first as u64);
-    console::text(b" before ");
-    console::number(second as u64);
-    console::text(b": ");
+pub(crate) fn order(log: &[u8], first: usize, second: usize) {
     match order::query(log, first, second) {
         Order::Yes => console::text(b"yes"),
         Order::No => console::text(b"no"),
@@ -29,32 +22,33 @@ pub(crate) fn order(name: &[u8], log: &[u8], first: usize, second: usize) {
 }
 
 // What a run says, and what a session says once it has been handed the events before the first that can not be read.
-pub(crate) fn both(name: &[u8], log: &[u8], pattern: &[u8]) {
-    console::text(name);
+pub(crate) fn both(log: &[u8], pattern: &[u8]) {
     console::text(b"\n  run: ");
-    show_judged(session::run(pattern, log));
+    run(log, pattern);
     console::text(b"\n  session: ");
     let opened = Session::open(pattern);
     let s = handed(opened.session, log);
     show_verdict(s.verdict());
 }
 
-// What a run says.
-pub(crate) fn run(name: &[u8], log: &[u8], pattern: &[u8]) {
-    console::text(b"run, ");
-    console::text(name);
-    console::text(b": ");
-    show_judged(session::run(pattern, log));
+pub(crate) fn run(log: &[u8], pattern: &[u8]) {
+    let judged = session::run(pattern, log);
+    let outcome = judged.outcome;
+    let numbers = judged.numbers;
+    show_outcome(outcome);
+    show_numbers(numbers);
 }
 
-// Hands an event to a session so many times and twice more, and shows the last two answers and the verdict.
-pub(crate) fn most(e: Event, pattern: &[u8], count: usize) {
+// Hands an event to a session so many times and once more, and shows the last answer and the verdict.
+pub(crate) fn more(e: Event, pattern: &[u8], count: usize) {
     let opened = Session::open(pattern);
     let s = repeated(opened.session, e, count);
-    let last = hand(s, e);
-    let over = hand(last, e);
-    console::text(b"then: ");
-    show_verdict(over.verdict());
+    let h = s.take(e);
+    let answer = h.answer;
+    show_answer(answer);
+    console::text(b"\nthen: ");
+    let last = h.session;
+    show_verdict(last.verdict());
 }
 
 fn handed(from: Session, log: &[u8]) -> Session {
@@ -84,23 +78,6 @@ fn repeated(from: Session, e: Event, count: usize) -> Session {
     s
 }
 
-// The number of the event is that of those taken, and one more.
-fn hand(s: Session, e: Event) -> Session {
-    console::text(b"event ");
-    console::number(std::num::wrapping_add_u64(s.taken as u64, 1));
-    console::text(b": ");
-    let h = s.take(e);
-    let answer = h.answer;
-    show_answer(answer);
-    console::text(b"\n");
-    h.session
-}
-
-fn show_match(count: usize) {
-    console::text(b"match at ");
-    console::number(count as u64);
-}
-
 // The event number of each slot, a space before it.
 fn show_numbers(numbers: [u16; 5]) {
     console::text(b", events");
@@ -110,25 +87,19 @@ fn show_numbers(numbers: [u16; 5]) {
     }
 }
 
-fn show_judged(r: Judged) {
-    let outcome = r.outcome;
+fn show_outcome(outcome: Outcome) {
     match outcome {
-        Outcome::Match { count } => show_match(count),
+        Outcome::Match { count } => console::numbered(b"match at ", count as u64),
         Outcome::None => console::text(b"no match"),
-        Outcome::PatternRefused { number, offset } => {
-            console::text(b"pattern ");
-            console::refusal(number, offset);
-        }
+        Outcome::PatternRefused { number, offset } => console::pattern_refusal(number, offset),
         Outcome::LogRefused { number, offset } => console::refusal(number, offset),
     }
-    let numbers = r.numbers;
-    show_numbers(numbers);
 }
 
 fn show_verdict(v: Verdict) {
     let found = v.found;
     match found {
-        Found::Match { count } => show_match(count),
+        Found::Match { count } => console::numbered(b"match at ", count as u64),
         Found::None => console::text(b"no match"),
     }
     let numbers = v.numbers;

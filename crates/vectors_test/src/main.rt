@@ -1,5 +1,5 @@
 // Reads vectors from standard input, a line for each, and prints what the library answers: to add a vector is to add a line.
-// A line is WORD NAME: FIELD | FIELD | FIELD, a field being bytes in hexadecimal or a number; `answers.rt` has the words.
+// A line is WORD TITLE: FIELD | FIELD | FIELD, a field being bytes in hexadecimal or a number. Its title is printed, and then the answer.
 mod admission;
 mod answers;
 mod buffers;
@@ -64,13 +64,15 @@ fn new_head(line: &[u8], space: &mut [u8]) -> usize {
     buffers::put_marks(space, n, spelled::decimal(line, bar))
 }
 
-// admit: EVENT | TAKEN.
+// admit TITLE: EVENT | TAKEN. Hands an event to the rules, the number of those taken before it given.
 fn admit(line: &[u8], state: &mut [u8; rules::STATE]) {
     let mut bytes = [0u8; 16];
     let colon = spelled::find(line, 0, b':');
     let bar = spelled::find(line, colon, b'|');
+    let from = spelled::title_from(line, colon);
     let n = spelled::put_bytes(line, colon, &mut bytes, 0);
     let e = commands::of(&bytes[..n], true);
+    console::text(&line[from..colon]);
     admission::admit(state, spelled::decimal(line, bar), e);
 }
 
@@ -81,7 +83,7 @@ fn vector(line: &[u8], space: &mut [u8], head: usize) {
     let mut second = [0u8; 64];
     let m = spelled::put_bytes(line, bar, &mut second, 0);
     let n = spelled::put_bytes(line, colon, space, head);
-    let from = spelled::name_from(line, colon);
+    let from = spelled::title_from(line, colon);
     let asked = Asked {
         word: spelled::first(line),
         tall: from <= spelled::find(line, 0, b'-'),

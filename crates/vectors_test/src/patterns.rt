@@ -3,9 +3,7 @@ use crate::commands;
 use event::Slot;
 use log::PatternAnswer;
 
-pub(crate) fn pattern(name: &[u8], bytes: &[u8]) {
-    console::text(b"pattern, ");
-    console::text(name);
+pub(crate) fn read(bytes: &[u8]) {
     let read = log::read_pattern(bytes);
     let answer = read.answer;
     show(answer);
@@ -14,28 +12,24 @@ pub(crate) fn pattern(name: &[u8], bytes: &[u8]) {
 fn show(answer: PatternAnswer) {
     match answer {
         PatternAnswer::Accepted { slots } => {
-            console::text(b": ");
             console::number(slots as u64);
             console::text(b" slots");
         }
-        PatternAnswer::PatternRefused { number, offset } => {
-            console::text(b": pattern ");
-            console::refusal(number, offset);
-        }
+        PatternAnswer::PatternRefused { number, offset } => console::pattern_refusal(
+            number,
+            offset,
+        ),
     }
 }
 
 // The answer, and the pattern that comes with it: its size and its five places.
-pub(crate) fn kept(name: &[u8], bytes: &[u8]) {
-    console::text(b"kept slots, ");
-    console::text(name);
+pub(crate) fn kept(bytes: &[u8]) {
     let read = log::read_pattern(bytes);
     let answer = read.answer;
     show(answer);
     let pattern = read.pattern;
     let slots = pattern.slots;
-    console::text(b", size ");
-    console::number(pattern.size as u64);
+    console::numbered(b", size ", pattern.size as u64);
     next(slots[0]);
     next(slots[1]);
     next(slots[2]);

@@ -23,8 +23,8 @@ pub(crate) fn find(s: &[u8], from: usize, b: u8) -> usize
     s.len()
 }
 
-// Where the name starts: after the word and a space, or at the colon where there is none.
-pub(crate) fn name_from(line: &[u8], colon: usize) -> usize
+// Where the title starts: after the word and a space, or at the colon where there is none.
+pub(crate) fn title_from(line: &[u8], colon: usize) -> usize
     ensures { λ r. ⌜ r ≤ colon ⌝ }
 {
     let space = find(line, 0, b' ');

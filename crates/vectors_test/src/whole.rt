@@ -1,13 +1,20 @@
 // Whole logs: how many events, or the refusal; logs and patterns copied command by command.
 use crate::buffers;
+use crate::patterns;
 use command::EventRead;
 use command::SlotRead;
 use log::LogRead;
 
-pub(crate) fn log(name: &[u8], bytes: &[u8]) {
-    console::text(b"log, ");
-    console::text(name);
-    console::text(b": ");
+// A log, or a pattern.
+pub(crate) fn read(tall: bool, bytes: &[u8]) {
+    if tall {
+        read_log(bytes);
+        return;
+    }
+    patterns::read(bytes);
+}
+
+fn read_log(bytes: &[u8]) {
     match log::read_log(bytes) {
         LogRead::Accepted { events } => {
             console::number(events as u64);
@@ -18,27 +25,16 @@ pub(crate) fn log(name: &[u8], bytes: &[u8]) {
 }
 
 // A copy made by reading and writing each command, held to the bytes that were read.
-pub(crate) fn trip(tall: bool, name: &[u8], bytes: &[u8]) {
+pub(crate) fn trip(tall: bool, bytes: &[u8]) {
     let mut space = [0xEEu8; 64];
-    if tall {
-        console::text(b"round trip of a log, ");
-    } else {
-        console::text(b"round trip of a pattern, ");
-    }
-    console::text(name);
-    console::text(b", ");
-    console::number(bytes.len() as u64);
-    console::text(b" bytes: ");
     let n = copy(tall, bytes, &mut space);
     compare(&space, n, bytes);
 }
 
 // The same copy into bytes EE, of which so many are shown.
-pub(crate) fn dump(tall: bool, name: &[u8], bytes: &[u8], shown: usize) {
+pub(crate) fn dump(tall: bool, bytes: &[u8], shown: usize) {
     let mut space = [0xEEu8; 64];
     copy(tall, bytes, &mut space);
-    console::text(name);
-    console::text(b":");
     show_first(&space, shown);
 }
 

@@ -5,15 +5,6 @@ use borrow.Author.Needs.{needs}
 use Rattle.vectors_test.proofs.commands.end.Statement.{statement}
 use Rattle.vectors_test.proofs.commands.end.Tie as tie
 
-slice-aggregate-text : tie.Need-slice-aggregate-text
-slice-aggregate-text c = search needs
-
-text-requires : tie.Need-text-requires
-text-requires c κs = search needs
-
-show-place-requires : tie.Need-show-place-requires
-show-place-requires c κs = search needs
-
 returns : tie.Need-returns
 returns c = search needs
 
@@ -26,8 +17,11 @@ slice-aggregate-write-end c = simp (length-take) (omega arith)
 write-end-requires : tie.Need-write-end-requires
 write-end-requires c κs = search needs
 
-written-requires : tie.Need-written-requires
-written-requires c κs = search needs
+show-written-requires : tie.Need-show-written-requires
+show-written-requires c κs = search needs
+
+show-buffer-requires : tie.Need-show-buffer-requires
+show-buffer-requires c κs = search needs
 
 returns-2 : tie.Need-returns-2
 returns-2 c = search needs
@@ -36,12 +30,10 @@ pub end-spec : {M : Type 1} → statement M
 end-spec =
     tie.close
     (tie.spec
-    slice-aggregate-text
-    text-requires
-    show-place-requires
     returns
     array-borrow-prefix-buffer
     slice-aggregate-write-end
     write-end-requires
-    written-requires
+    show-written-requires
+    show-buffer-requires
     returns-2)
