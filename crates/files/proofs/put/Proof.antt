@@ -2,8 +2,8 @@ use mathlib.Core.Path.{_≡_}
 use lib.ListN.{length}
 use Prim.Native.Nat.{_-_, _≤_}
 use borrow.Author.Needs.{needs}
-use Rattle.examples_test.proofs.put.Statement.{statement}
-use Rattle.examples_test.proofs.put.Tie as tie
+use Rattle.files.proofs.put.Statement.{statement}
+use Rattle.files.proofs.put.Tie as tie
 
 abbrev Inv-loop : tie.InvT-loop
 Inv-loop path₀ from bytes at₀ i₀ i-end path at i = (i ≤ i-end) × (length path ≡ length path₀)
