@@ -1,11 +1,12 @@
 // Small logs drawn by number.
-// Used by test programs only: proved safe, compared and not specified.
+// Used by test programs only.
 use event::Event;
 use event::Operation;
 use log::LogRead;
 use writer::Written;
 ghost use mathlib.Core.Path.{_≡_};
 ghost use Prim.Native.Nat.{_+_, _*_, _%_};
+ghost use Rattle.plain.specs.Drawing.{isAccepted, placeAfter};
 
 // A log under way: the place after it, and the last number drawn.
 pub struct Draft {
@@ -105,7 +106,10 @@ fn takes(buffer: &mut [u8], end: usize) -> bool {
     accepted(log::read_log(&buffer[..size]))
 }
 
-pub fn accepted(read: LogRead) -> bool {
+// Whether a log is accepted.
+pub fn accepted(read: LogRead) -> bool
+    ensures { λ r. ⌜ r ≡ isAccepted read ⌝ }
+{
     match read {
         LogRead::Accepted { events: _ } => true,
         LogRead::LogRefused {
@@ -230,7 +234,9 @@ fn operation_of(kind: u32, object: u8, high: bool) -> Operation {
 }
 
 // The next write place; the old one after a refusal.
-pub fn place_after(w: Written, at: usize) -> usize {
+pub fn place_after(w: Written, at: usize) -> usize
+    ensures { λ r. ⌜ r ≡ placeAfter w at ⌝ }
+{
     match w {
         Written::Next { at: next } => next,
         Written::Refused {

@@ -1,5 +1,4 @@
 // A run and a session held to what the search found.
-use crate::orders;
 use crate::truth::Truth;
 use command::EventRead;
 use log::LogRead;
@@ -158,7 +157,7 @@ fn fills(t: Truth, count: usize, i: usize, number: u16) -> bool {
     }
     let k = t.sketch;
     let l = t.leading;
-    orders::fits(k.slots[i], l.events[n - 1])
+    k.slots[i] == l.events[n - 1]
 }
 
 // Whether for no slot after slot i its event comes before slot i's event or is it.

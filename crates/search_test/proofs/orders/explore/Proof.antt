@@ -1,16 +1,16 @@
--- `search_test::orders::search` is safe and ends. The loop keeps the lengths of what is lent; what falls is the number of orders left.
-use Prim.Native.Nat.{_-_, _≤_}
+-- `search_test::orders::explore` is safe and ends. The loop keeps the lengths of what is lent; what falls is the number of orders left.
+use Prim.Native.Nat.{_-_, _≤_, _<_}
 use mathlib.Core.Path.{_≡_}
 use lib.ListN.{length}
 use borrow.Author.Needs.{needs}
-use Rattle.search_test.proofs.orders.search.Tie as tie
-use Rattle.search_test.proofs.orders.search.Statement.{statement}
+use Rattle.search_test.proofs.orders.explore.Statement.{statement}
+use Rattle.search_test.proofs.orders.explore.Tie as tie
 
 abbrev Inv-loop : tie.InvT-loop
-Inv-loop queue₀ seen₀ q tail₀ head₀ queue seen tail head = (head ≤ 5040) × (length queue ≡ length queue₀) × (length seen ≡ length seen₀)
+Inv-loop queue₀ seen₀ q found₀ head₀ queue seen found head = (head ≤ 5040) × (length queue ≡ length queue₀) × (length seen ≡ length seen₀)
 
 abbrev μ-loop : tie.MeasureT-loop
-μ-loop queue₀ seen₀ q tail₀ head₀ queue seen tail head = 5040 - head
+μ-loop queue₀ seen₀ q found₀ head₀ queue seen found head = 5040 - head
 
 number-of-requires : tie.Need-number-of-requires Inv-loop μ-loop
 number-of-requires c κs = search needs
@@ -21,8 +21,8 @@ put-requires c κs = search needs
 loop-holds : tie.Need-loop-holds Inv-loop μ-loop
 loop-holds c = search needs
 
-clear-requires : tie.Need-clear-requires Inv-loop μ-loop
-clear-requires c κs = search needs
+result-of-requires : tie.Need-result-of-requires Inv-loop μ-loop
+result-of-requires c κs = search needs
 
 same-length : tie.Need-same-length Inv-loop μ-loop
 same-length c = search needs
@@ -42,11 +42,11 @@ order-of-requires c κs = search needs
 holds-requires : tie.Need-holds-requires Inv-loop μ-loop
 holds-requires c κs = search needs
 
-clear-requires-2 : tie.Need-clear-requires-2 Inv-loop μ-loop
-clear-requires-2 c κs = search needs
+add-result-of : tie.Need-add-result-of Inv-loop μ-loop
+add-result-of c = search needs
 
-add-t30 : tie.Need-add-t30 Inv-loop μ-loop
-add-t30 c = search needs
+result-of-requires-2 : tie.Need-result-of-requires-2 Inv-loop μ-loop
+result-of-requires-2 c κs = search needs
 
 same-length-3 : tie.Need-same-length-3 Inv-loop μ-loop
 same-length-3 c = search needs
@@ -69,8 +69,8 @@ loop-less c = search needs
 loop-again : tie.Need-loop-again Inv-loop μ-loop
 loop-again c = search needs
 
-clear-requires-3 : tie.Need-clear-requires-3 Inv-loop μ-loop
-clear-requires-3 c κs = search needs
+result-of-requires-3 : tie.Need-result-of-requires-3 Inv-loop μ-loop
+result-of-requires-3 c κs = search needs
 
 same-length-5 : tie.Need-same-length-5 Inv-loop μ-loop
 same-length-5 c = search needs
@@ -81,8 +81,8 @@ same-length-6 c = search needs
 returns-3 : tie.Need-returns-3 Inv-loop μ-loop
 returns-3 c = search needs
 
-pub search-spec : {M : Type 1} → statement M
-search-spec =
+pub explore-spec : {M : Type 1} → statement M
+explore-spec =
     tie.close
     (tie.spec
     Inv-loop
@@ -90,15 +90,15 @@ search-spec =
     number-of-requires
     put-requires
     loop-holds
-    clear-requires
+    result-of-requires
     same-length
     same-length-2
     returns
     at-requires
     order-of-requires
     holds-requires
-    clear-requires-2
-    add-t30
+    add-result-of
+    result-of-requires-2
     same-length-3
     same-length-4
     returns-2
@@ -106,7 +106,7 @@ search-spec =
     add-head
     loop-less
     loop-again
-    clear-requires-3
+    result-of-requires-3
     same-length-5
     same-length-6
     returns-3)
