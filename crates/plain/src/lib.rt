@@ -6,9 +6,10 @@ use command::EventRead;
 use event::Event;
 use event::Operation;
 ghost use mathlib.Core.Path.{_≡_};
+ghost use mathlib.Core.Bool.{true, cond};
 ghost use Prim.Native.Nat.{_+_, _*_, _<_, _≤_};
 ghost use Rattle.plain.specs.Numbers.{kindOf, threadOf, objectOf, numberOf};
-ghost use Rattle.plain.specs.Chains.{onVariable, onLock, onThread, sameVariableOneWrite, sameLock, namesThreadOf, isThreadOf, dependent, dependentAt, entry};
+ghost use Rattle.plain.specs.Chains.{onVariable, onLock, onThread, sameVariableOneWrite, sameLock, namesThreadOf, isThreadOf, dependent, dependentAt, entry, isAt, holdsTo, links, reachesTo, columnTo, columnsTo};
 
 pub const MOST: usize = 8;
 
@@ -100,13 +101,32 @@ pub fn read(log: &[u8]) -> Leading
 }
 
 // Whether one of the events is of the kind.
-pub fn holds(l: Leading, kind: u32) -> bool {
+pub fn holds(l: Leading, kind: u32) -> bool
+    ensures { λ r. ⌜ r ≡ holdsTo 8 (l .events) (l .count) kind ⌝ }
+{
+    let events = l.events;
+    let count = l.count;
+    let mut found = false;
     for n in 0..MOST {
-        if n < l.count && l.events[n] / 16777216 == kind {
-            return true;
-        }
+        found = found_at(events, count, kind, n, found);
     }
-    false
+    found
+}
+
+// Whether it was found before place n or is found there.
+fn found_at(events: [u32; MOST], count: usize, wanted: u32, n: usize, found: bool) -> bool
+    ensures { λ r. ⌜ r ≡ cond (isAt events count wanted n) true found ⌝ }
+{
+    if n >= MOST {
+        return found;
+    }
+    if n >= count {
+        return found;
+    }
+    if kind(events[n]) == wanted {
+        return true;
+    }
+    found
 }
 
 fn on_variable(a: u32) -> bool
@@ -211,7 +231,9 @@ pub fn dependent(a: u32, b: u32) -> bool
 }
 
 // Whether event i comes before event j or is it, at 8 * j + i; both counted from 0.
-pub fn relation(events: [u32; MOST]) -> [bool; 64] {
+pub fn relation(events: [u32; MOST]) -> [bool; 64]
+    ensures { λ r. ⌜ r ≡ columnsTo 8 events ⌝ }
+{
     let mut before = [false; 64];
     for j in 0..MOST {
         column(&mut before, events, j);
@@ -220,24 +242,48 @@ pub fn relation(events: [u32; MOST]) -> [bool; 64] {
 }
 
 // What comes before event j or is it, from what comes before the events ahead of it.
-fn column(before: &mut [bool; 64], events: [u32; MOST], j: usize) {
+fn column(before: &mut [bool; 64], events: [u32; MOST], j: usize)
+    requires { ⌜ j < 8 ⌝ }
+    ensures { λ r. ⌜ now (before .exit) ≡ columnTo 8 events j (now (before .entry)) ⌝ }
+{
     for i in 0..MOST {
         let b = reaches(before, events, i, j);
-        put(before, i, j, b);
+        before[8 * j + i] = b;
     }
 }
 
 // The same event, or a chain from i to an event k ahead of j that j depends on.
-fn reaches(before: &[bool; 64], events: [u32; MOST], i: usize, j: usize) -> bool {
-    if i == j {
-        return true;
-    }
+fn reaches(before: &[bool; 64], events: [u32; MOST], i: usize, j: usize) -> bool
+    ensures { λ r. ⌜ r ≡ reachesTo 8 events (now (before .entry)) i j ⌝ }
+{
+    let mut found = i == j;
     for k in 0..MOST {
-        if k < j && at(before, i, k) && dependent_places(events, k, j) {
+        found = linked(before, events, i, j, k, found);
+    }
+    found
+}
+
+// Whether a chain was found before, or goes through event k.
+fn linked(
+    before: &[bool; 64],
+    events: [u32; MOST],
+    i: usize,
+    j: usize,
+    k: usize,
+    found: bool,
+) -> bool
+    ensures { λ r. ⌜ r ≡ cond (links events (now (before .entry)) i j k) true found ⌝ }
+{
+    if k >= j {
+        return found;
+    }
+    if at(before, i, k) {
+        if dependent_places(events, k, j) {
             return true;
         }
+        return found;
     }
-    false
+    found
 }
 
 // The same of two events by their places, counted from 0.
@@ -264,14 +310,4 @@ pub fn at(before: &[bool; 64], i: usize, j: usize) -> bool
         return false;
     }
     before[8 * j + i]
-}
-
-fn put(before: &mut [bool; 64], i: usize, j: usize, b: bool) {
-    if i >= MOST {
-        return;
-    }
-    if j >= MOST {
-        return;
-    }
-    before[8 * j + i] = b;
 }
