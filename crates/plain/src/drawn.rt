@@ -5,7 +5,8 @@ use event::Operation;
 use log::LogRead;
 use writer::Written;
 ghost use mathlib.Core.Path.{_≡_};
-ghost use Prim.Native.Nat.{_+_, _*_, _%_};
+ghost use Prim.Native.Nat.{_+_, _*_, _%_, _≤_};
+ghost use lib.ListN.{length};
 ghost use Rattle.plain.specs.Drawing.{isAccepted, placeAfter};
 
 // A log under way: the place after it, and the last number drawn.
@@ -30,7 +31,9 @@ struct Manner {
 }
 
 // Writes a log of at most seven events; the place after it, and the last number drawn.
-pub fn make(buffer: &mut [u8], drawn: u32) -> Draft {
+pub fn make(buffer: &mut [u8], drawn: u32) -> Draft
+    ensures { λ r. ⌜ r .at ≤ length (now (buffer .exit)) ⌝ }
+{
     let shape = draw(drawn);
     let manner = Manner {
         tries: 1 + shape / 2097152 % 8,
@@ -43,7 +46,9 @@ pub fn make(buffer: &mut [u8], drawn: u32) -> Draft {
 }
 
 // The same with four to seven events of one mix: 1 has many reads, 2 many acquires and releases, 3 many forks and joins, each with marks.
-pub fn make_mixed(buffer: &mut [u8], drawn: u32, mix: u8) -> Draft {
+pub fn make_mixed(buffer: &mut [u8], drawn: u32, mix: u8) -> Draft
+    ensures { λ r. ⌜ r .at ≤ length (now (buffer .exit)) ⌝ }
+{
     let shape = draw(drawn);
     let manner = Manner {
         tries: 8,
@@ -63,13 +68,21 @@ fn threads_of(mix: u8, more: bool) -> u8 {
     if more { 8 } else { 4 }
 }
 
-fn closed(buffer: &mut [u8], d: Draft) -> Draft {
-    let last = d.drawn;
-    let end = close(buffer, d.at, last / 32768 % 32);
-    Draft {
-        at: end,
-        drawn: last,
+// Closes a log; the place after it is within the buffer.
+fn closed(buffer: &mut [u8], d: Draft) -> Draft
+    ensures { λ r. ⌜ r .at ≤ length (now (buffer .exit)) ⌝ }
+{
+    let end = close(buffer, d.at, d.drawn / 32768 % 32);
+    within(buffer.len(), end, d.drawn)
+}
+
+fn within(size: usize, end: usize, drawn: u32) -> Draft
+    ensures { λ r. ⌜ r .at ≤ size ⌝ }
+{
+    if end <= size {
+        return Draft { at: end, drawn };
     }
+    Draft { at: size, drawn }
 }
 
 fn events(buffer: &mut [u8], drawn: u32, count: u32, manner: Manner) -> Draft {

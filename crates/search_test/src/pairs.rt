@@ -12,7 +12,7 @@ pub(crate) fn of(log: &[u8], l: Leading, counts: &mut [u64; COUNTS]) {
     let before = plain::relation(events);
     let read = log::read_log(log);
     for k in 0..81 {
-        let answer = number_of(order::query(log, k / 9, k % 9));
+        let answer = answer_number(order::query(log, k / 9, k % 9));
         let right = answer == due(read, &before, k / 9, k % 9);
         count(counts, answer == 1, direct(l, k / 9, k % 9), right);
     }
@@ -27,7 +27,7 @@ fn count(counts: &mut [u64; COUNTS], yes: bool, direct: bool, right: bool) {
 }
 
 // An answer as a number: 0 no, 1 yes, and one for each refusal.
-fn number_of(o: Order) -> u64 {
+fn answer_number(o: Order) -> u64 {
     match o {
         Order::Yes => 1,
         Order::No => 0,

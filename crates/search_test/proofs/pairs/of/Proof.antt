@@ -24,8 +24,8 @@ loop-holds c = search needs
 query-requires : tie.Need-query-requires Inv-loop μ-loop
 query-requires c κs = search needs
 
-number-of-requires : tie.Need-number-of-requires Inv-loop μ-loop
-number-of-requires c κs = search needs
+answer-number-requires : tie.Need-answer-number-requires Inv-loop μ-loop
+answer-number-requires c κs = search needs
 
 due-requires : tie.Need-due-requires Inv-loop μ-loop
 due-requires c κs = search needs
@@ -58,7 +58,7 @@ of-spec =
     read-log-requires
     loop-holds
     query-requires
-    number-of-requires
+    answer-number-requires
     due-requires
     direct-requires
     count-requires

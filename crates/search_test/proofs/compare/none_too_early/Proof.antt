@@ -1,8 +1,8 @@
--- `search_test::compare::in_sequence` is safe and ends. What falls is the number of slots left.
+-- `search_test::compare::none_too_early` is safe and ends. What falls is the number of slots left.
 use Prim.Native.Nat.{_-_, _≤_}
 use borrow.Author.Needs.{needs}
-use Rattle.search_test.proofs.compare.in_sequence.Tie as tie
-use Rattle.search_test.proofs.compare.in_sequence.Statement.{statement}
+use Rattle.search_test.proofs.compare.none_too_early.Tie as tie
+use Rattle.search_test.proofs.compare.none_too_early.Statement.{statement}
 
 abbrev Inv-loop : tie.InvT-loop
 Inv-loop t i numbers k j₀ j = j ≤ 5
@@ -46,8 +46,8 @@ loop-again c = search needs
 returns-3 : tie.Need-returns-3 Inv-loop μ-loop
 returns-3 c = search needs
 
-pub in-sequence-spec : {M : Type 1} → statement M
-in-sequence-spec =
+pub none-too-early-spec : {M : Type 1} → statement M
+none-too-early-spec =
     tie.close
     (tie.spec
     Inv-loop
