@@ -1,6 +1,5 @@
-// What test programs print, and how their vectors are spelled.
+// What test programs print.
 // Used by test programs only: proved safe; what they print is compared with stored output.
-pub mod spelled;
 
 pub fn text(s: &[u8]) {
     io::write_all(1, s);
@@ -10,19 +9,27 @@ pub fn number(n: u64) {
     io::print_decimal(1, n);
 }
 
+// Words, then a number.
+pub fn numbered(words: &[u8], n: u64) {
+    text(words);
+    number(n);
+}
+
 // A count on a line of its own.
 pub fn count(name: &[u8], n: u64) {
     text(name);
-    text(b": ");
-    number(n);
+    numbered(b": ", n);
     text(b"\n");
 }
 
 pub fn refusal(k: u8, offset: usize) {
-    text(b"refused ");
-    number(k as u64);
-    text(b" at ");
-    number(offset as u64);
+    numbered(b"refused ", k as u64);
+    numbered(b" at ", offset as u64);
+}
+
+pub fn pattern_refusal(k: u8, offset: usize) {
+    text(b"pattern ");
+    refusal(k, offset);
 }
 
 // The hexadecimal digit of the low four bits.

@@ -2,20 +2,9 @@
 use writer::Written;
 ghost use Rattle.io.specs.Counts.{Counts};
 
-// One byte more than the longest file that is listed, so that a longer one is seen to be longer.
-const SPACE: usize = 65537;
-
 fn main() {
-    let mut pattern = [0u8; SPACE];
-    let mut log = [0u8; SPACE];
-    let p = files::read(b"pattern.bin", &mut pattern);
-    let l = files::read(b"log.bin", &mut log);
-    print(&pattern[..p], &log[..l]);
-}
-
-fn print(pattern: &[u8], log: &[u8]) {
     let mut text = [0u8; listing_text::ROOM];
-    let written = listing_text::write(pattern, log, &mut text);
+    let written = files::list(b".", &mut text);
     match written {
         Written::Next { at } => print_start(&text, at),
         // A page holds every listing.

@@ -17,6 +17,9 @@ ghost use Rattle.listing_text.specs.Listing.{enough as room, Listing, Li
 // The longest pattern or log that is listed, in bytes.
 pub const LONGEST: usize = 65536;
 
+// What a program reads of a file, in bytes: one more than is listed, so that a longer file is seen to be longer.
+pub const SPACE: usize = LONGEST + 1;
+
 // More than any listing has, in bytes.
 pub const ROOM: usize = 1024;
 

@@ -1,11 +1,13 @@
 // Small logs drawn by number.
-// Used by test programs only: proved safe, compared and not specified.
+// Used by test programs only.
 use event::Event;
 use event::Operation;
 use log::LogRead;
 use writer::Written;
 ghost use mathlib.Core.Path.{_≡_};
-ghost use Prim.Native.Nat.{_+_, _*_, _%_};
+ghost use Prim.Native.Nat.{_+_, _*_, _%_, _≤_};
+ghost use lib.ListN.{length};
+ghost use Rattle.plain.specs.Drawing.{isAccepted, placeAfter};
 
 // A log under way: the place after it, and the last number drawn.
 pub struct Draft {
@@ -29,7 +31,9 @@ struct Manner {
 }
 
 // Writes a log of at most seven events; the place after it, and the last number drawn.
-pub fn make(buffer: &mut [u8], drawn: u32) -> Draft {
+pub fn make(buffer: &mut [u8], drawn: u32) -> Draft
+    ensures { λ r. ⌜ r .at ≤ length (now (buffer .exit)) ⌝ }
+{
     let shape = draw(drawn);
     let manner = Manner {
         tries: 1 + shape / 2097152 % 8,
@@ -42,7 +46,9 @@ pub fn make(buffer: &mut [u8], drawn: u32) -> Draft {
 }
 
 // The same with four to seven events of one mix: 1 has many reads, 2 many acquires and releases, 3 many forks and joins, each with marks.
-pub fn make_mixed(buffer: &mut [u8], drawn: u32, mix: u8) -> Draft {
+pub fn make_mixed(buffer: &mut [u8], drawn: u32, mix: u8) -> Draft
+    ensures { λ r. ⌜ r .at ≤ length (now (buffer .exit)) ⌝ }
+{
     let shape = draw(drawn);
     let manner = Manner {
         tries: 8,
@@ -62,13 +68,21 @@ fn threads_of(mix: u8, more: bool) -> u8 {
     if more { 8 } else { 4 }
 }
 
-fn closed(buffer: &mut [u8], d: Draft) -> Draft {
-    let last = d.drawn;
-    let end = close(buffer, d.at, last / 32768 % 32);
-    Draft {
-        at: end,
-        drawn: last,
+// Closes a log; the place after it is within the buffer.
+fn closed(buffer: &mut [u8], d: Draft) -> Draft
+    ensures { λ r. ⌜ r .at ≤ length (now (buffer .exit)) ⌝ }
+{
+    let end = close(buffer, d.at, d.drawn / 32768 % 32);
+    within(buffer.len(), end, d.drawn)
+}
+
+fn within(size: usize, end: usize, drawn: u32) -> Draft
+    ensures { λ r. ⌜ r .at ≤ size ⌝ }
+{
+    if end <= size {
+        return Draft { at: end, drawn };
     }
+    Draft { at: size, drawn }
 }
 
 fn events(buffer: &mut [u8], drawn: u32, count: u32, manner: Manner) -> Draft {
@@ -105,7 +119,10 @@ fn takes(buffer: &mut [u8], end: usize) -> bool {
     accepted(log::read_log(&buffer[..size]))
 }
 
-pub fn accepted(read: LogRead) -> bool {
+// Whether a log is accepted.
+pub fn accepted(read: LogRead) -> bool
+    ensures { λ r. ⌜ r ≡ isAccepted read ⌝ }
+{
     match read {
         LogRead::Accepted { events: _ } => true,
         LogRead::LogRefused {
@@ -230,7 +247,9 @@ fn operation_of(kind: u32, object: u8, high: bool) -> Operation {
 }
 
 // The next write place; the old one after a refusal.
-pub fn place_after(w: Written, at: usize) -> usize {
+pub fn place_after(w: Written, at: usize) -> usize
+    ensures { λ r. ⌜ r ≡ placeAfter w at ⌝ }
+{
     match w {
         Written::Next { at: next } => next,
         Written::Refused {

@@ -1,65 +1,82 @@
 // The order of a log of at most eight events, computed from document 01's words: dependent pairs, and chains of them rising in the log.
-// Used by test programs only: proved safe, compared and not specified.
+// Used by test programs only.
 pub mod drawn;
-pub mod marks;
 
 use command::EventRead;
 use event::Event;
 use event::Operation;
-ghost use Prim.Native.Nat.{_≤_};
+ghost use mathlib.Core.Path.{_≡_};
+ghost use mathlib.Core.Bool.{true, cond};
+ghost use Prim.Native.Nat.{_+_, _*_, _<_, _≤_};
+ghost use Rattle.plain.specs.Numbers.{kindOf, threadOf, objectOf, numberOf};
+ghost use Rattle.plain.specs.Chains.{onVariable, onLock, onThread, sameVariableOneWrite, sameLock, namesThreadOf, isThreadOf, dependent, dependentAt, entry, isAt, holdsTo, links, reachesTo, columnTo, columnsTo};
 
 pub const MOST: usize = 8;
 
 // The kinds of events by the byte of their command.
-pub const READ: u8 = 1;
+pub const READ: u32 = 1;
 
-pub const WRITE: u8 = 2;
+pub const WRITE: u32 = 2;
 
-pub const ACQUIRE: u8 = 3;
+pub const ACQUIRE: u32 = 3;
 
-pub const RELEASE: u8 = 4;
+pub const RELEASE: u32 = 4;
 
-pub const FORK: u8 = 5;
+pub const FORK: u32 = 5;
 
-pub const JOIN: u8 = 6;
+pub const JOIN: u32 = 6;
 
-pub const MARK: u8 = 7;
+pub const MARK: u32 = 7;
 
-// An event in numbers: the variable, the lock, the child or the mark is its object.
-pub struct Plain {
-    pub thread: u16,
-    pub kind: u8,
-    pub object: u16,
-}
-
-// The leading events of a log, `count` of them.
+// The leading events of a log, `count` of them, each as one number.
 pub struct Leading {
-    pub events: [Plain; MOST],
+    pub events: [u32; MOST],
     pub count: usize,
 }
 
-fn made(thread: u8, kind: u8, object: u16) -> Plain {
-    Plain {
-        thread: thread as u16,
-        kind,
-        object,
-    }
+// An event as one number: its kind, its thread, and its object, which is the variable, the lock, the child or the mark.
+// Two events have the same number where they fit the same slot.
+pub fn number(kind: u32, thread: u8, object: u16) -> u32
+    requires { ⌜ kind < 8 ⌝ }
+    ensures { λ r. ⌜ r ≡ kind * 16777216 + thread * 65536 + object ⌝ }
+{
+    kind * 16777216 + thread as u32 * 65536 + object as u32
 }
 
-fn in_numbers(e: Event) -> Plain {
+pub fn kind(a: u32) -> u32
+    ensures { λ r. ⌜ r ≡ kindOf a ⌝ }
+{
+    a / 16777216
+}
+
+pub fn thread(a: u32) -> u32
+    ensures { λ r. ⌜ r ≡ threadOf a ⌝ }
+{
+    a / 65536 % 256
+}
+
+pub fn object(a: u32) -> u32
+    ensures { λ r. ⌜ r ≡ objectOf a ⌝ }
+{
+    a % 65536
+}
+
+fn number_of(e: Event) -> u32
+    ensures { λ r. ⌜ r ≡ numberOf e ⌝ }
+{
     let t = e.thread;
     let op = e.operation;
     match op {
-        Operation::Read { variable } => made(t, READ, variable as u16),
+        Operation::Read { variable } => number(READ, t, variable as u16),
         Operation::Write {
             variable,
             height: _,
-        } => made(t, WRITE, variable as u16),
-        Operation::Acquire { lock } => made(t, ACQUIRE, lock as u16),
-        Operation::Release { lock } => made(t, RELEASE, lock as u16),
-        Operation::Fork { child } => made(t, FORK, child as u16),
-        Operation::Join { child } => made(t, JOIN, child as u16),
-        Operation::Mark { mark } => made(t, MARK, mark),
+        } => number(WRITE, t, variable as u16),
+        Operation::Acquire { lock } => number(ACQUIRE, t, lock as u16),
+        Operation::Release { lock } => number(RELEASE, t, lock as u16),
+        Operation::Fork { child } => number(FORK, t, child as u16),
+        Operation::Join { child } => number(JOIN, t, child as u16),
+        Operation::Mark { mark } => number(MARK, t, mark),
     }
 }
 
@@ -67,14 +84,14 @@ fn in_numbers(e: Event) -> Plain {
 pub fn read(log: &[u8]) -> Leading
     ensures { λ r. ⌜ r .count ≤ 8 ⌝ }
 {
-    let mut events = [made(0, MARK, 0); MOST];
+    let mut events = [0u32; MOST];
     let mut at: usize = 0;
     for n in 0..MOST {
         let step = command::read_event(log, at);
         let EventRead::Event { event, next } = step else {
             return Leading { events, count: n };
         };
-        events[n] = in_numbers(event);
+        events[n] = number_of(event);
         at = next;
     }
     Leading {
@@ -84,54 +101,121 @@ pub fn read(log: &[u8]) -> Leading
 }
 
 // Whether one of the events is of the kind.
-pub fn holds(l: Leading, kind: u8) -> bool {
+pub fn holds(l: Leading, kind: u32) -> bool
+    ensures { λ r. ⌜ r ≡ holdsTo 8 (l .events) (l .count) kind ⌝ }
+{
+    let events = l.events;
+    let count = l.count;
+    let mut found = false;
     for n in 0..MOST {
-        if n < l.count && l.events[n].kind == kind {
-            return true;
-        }
+        found = found_at(events, count, kind, n, found);
+    }
+    found
+}
+
+// Whether it was found before place n or is found there.
+fn found_at(events: [u32; MOST], count: usize, wanted: u32, n: usize, found: bool) -> bool
+    ensures { λ r. ⌜ r ≡ cond (isAt events count wanted n) true found ⌝ }
+{
+    if n >= MOST {
+        return found;
+    }
+    if n >= count {
+        return found;
+    }
+    if kind(events[n]) == wanted {
+        return true;
+    }
+    found
+}
+
+fn on_variable(a: u32) -> bool
+    ensures { λ r. ⌜ r ≡ onVariable a ⌝ }
+{
+    let k = kind(a);
+    if k == READ {
+        return true;
+    }
+    k == WRITE
+}
+
+fn on_lock(a: u32) -> bool
+    ensures { λ r. ⌜ r ≡ onLock a ⌝ }
+{
+    let k = kind(a);
+    if k == ACQUIRE {
+        return true;
+    }
+    k == RELEASE
+}
+
+fn on_thread(a: u32) -> bool
+    ensures { λ r. ⌜ r ≡ onThread a ⌝ }
+{
+    let k = kind(a);
+    if k == FORK {
+        return true;
+    }
+    k == JOIN
+}
+
+// "they touch the same variable and at least one is a write"
+fn same_variable_one_write(a: u32, b: u32) -> bool
+    ensures { λ r. ⌜ r ≡ sameVariableOneWrite a b ⌝ }
+{
+    if object(a) != object(b) {
+        return false;
+    }
+    if kind(a) == WRITE {
+        return on_variable(b);
+    }
+    if kind(b) == WRITE {
+        return on_variable(a);
     }
     false
 }
 
-fn on_variable(a: Plain) -> bool {
-    a.kind == READ || a.kind == WRITE
-}
-
-fn on_lock(a: Plain) -> bool {
-    a.kind == ACQUIRE || a.kind == RELEASE
-}
-
-fn on_thread(a: Plain) -> bool {
-    a.kind == FORK || a.kind == JOIN
-}
-
-// "they touch the same variable and at least one is a write"
-fn same_variable_one_write(a: Plain, b: Plain) -> bool {
-    if a.kind != WRITE && b.kind != WRITE {
+// "they touch the same lock"
+fn same_lock(a: u32, b: u32) -> bool
+    ensures { λ r. ⌜ r ≡ sameLock a b ⌝ }
+{
+    if object(a) != object(b) {
         return false;
     }
-    on_variable(a) && on_variable(b) && a.object == b.object
-}
-
-// "they touch the same lock"
-fn same_lock(a: Plain, b: Plain) -> bool {
-    on_lock(a) && on_lock(b) && a.object == b.object
+    if on_lock(a) {
+        return on_lock(b);
+    }
+    false
 }
 
 // a "forks or joins a thread which" b "acts as, forks or joins"
-fn names_thread_of(a: Plain, b: Plain) -> bool {
-    if !on_thread(a) {
-        return false;
+fn names_thread_of(a: u32, b: u32) -> bool
+    ensures { λ r. ⌜ r ≡ namesThreadOf a b ⌝ }
+{
+    if on_thread(a) {
+        return is_thread_of(object(a), b);
     }
-    if a.object == b.thread {
+    false
+}
+
+// Whether b acts as the thread, forks or joins it.
+fn is_thread_of(named: u32, b: u32) -> bool
+    ensures { λ r. ⌜ r ≡ isThreadOf named b ⌝ }
+{
+    if named == thread(b) {
         return true;
     }
-    on_thread(b) && a.object == b.object
+    if named == object(b) {
+        return on_thread(b);
+    }
+    false
 }
 
 // The four points of document 01's list.
-pub fn dependent(a: Plain, b: Plain) -> bool {
-    if a.thread == b.thread {
+pub fn dependent(a: u32, b: u32) -> bool
+    ensures { λ r. ⌜ r ≡ dependent a b ⌝ }
+{
+    if thread(a) == thread(b) {
         return true;
     }
     if same_variable_one_write(a, b) {
@@ -140,11 +224,16 @@ pub fn dependent(a: Plain, b: Plain) -> bool {
     if same_lock(a, b) {
         return true;
     }
-    names_thread_of(a, b) || names_thread_of(b, a)
+    if names_thread_of(a, b) {
+        return true;
+    }
+    names_thread_of(b, a)
 }
 
 // Whether event i comes before event j or is it, at 8 * j + i; both counted from 0.
-pub fn relation(events: [Plain; MOST]) -> [bool; 64] {
+pub fn relation(events: [u32; MOST]) -> [bool; 64]
+    ensures { λ r. ⌜ r ≡ columnsTo 8 events ⌝ }
+{
     let mut before = [false; 64];
     for j in 0..MOST {
         column(&mut before, events, j);
@@ -153,36 +242,67 @@ pub fn relation(events: [Plain; MOST]) -> [bool; 64] {
 }
 
 // What comes before event j or is it, from what comes before the events ahead of it.
-fn column(before: &mut [bool; 64], events: [Plain; MOST], j: usize) {
+fn column(before: &mut [bool; 64], events: [u32; MOST], j: usize)
+    requires { ⌜ j < 8 ⌝ }
+    ensures { λ r. ⌜ now (before .exit) ≡ columnTo 8 events j (now (before .entry)) ⌝ }
+{
     for i in 0..MOST {
         let b = reaches(before, events, i, j);
-        put(before, i, j, b);
+        before[8 * j + i] = b;
     }
 }
 
 // The same event, or a chain from i to an event k ahead of j that j depends on.
-fn reaches(before: &[bool; 64], events: [Plain; MOST], i: usize, j: usize) -> bool {
-    if i == j {
-        return true;
-    }
+fn reaches(before: &[bool; 64], events: [u32; MOST], i: usize, j: usize) -> bool
+    ensures { λ r. ⌜ r ≡ reachesTo 8 events (now (before .entry)) i j ⌝ }
+{
+    let mut found = i == j;
     for k in 0..MOST {
-        if k < j && at(before, i, k) && dependent_places(events, k, j) {
+        found = linked(before, events, i, j, k, found);
+    }
+    found
+}
+
+// Whether a chain was found before, or goes through event k.
+fn linked(
+    before: &[bool; 64],
+    events: [u32; MOST],
+    i: usize,
+    j: usize,
+    k: usize,
+    found: bool,
+) -> bool
+    ensures { λ r. ⌜ r ≡ cond (links events (now (before .entry)) i j k) true found ⌝ }
+{
+    if k >= j {
+        return found;
+    }
+    if at(before, i, k) {
+        if dependent_places(events, k, j) {
             return true;
         }
+        return found;
     }
-    false
+    found
 }
 
 // The same of two events by their places, counted from 0.
-pub fn dependent_places(events: [Plain; MOST], i: usize, j: usize) -> bool {
-    if i < MOST && j < MOST {
-        return dependent(events[i], events[j]);
+pub fn dependent_places(events: [u32; MOST], i: usize, j: usize) -> bool
+    ensures { λ r. ⌜ r ≡ dependentAt events i j ⌝ }
+{
+    if i >= MOST {
+        return false;
     }
-    false
+    if j >= MOST {
+        return false;
+    }
+    dependent(events[i], events[j])
 }
 
 // The entry of the relation for events i and j.
-pub fn at(before: &[bool; 64], i: usize, j: usize) -> bool {
+pub fn at(before: &[bool; 64], i: usize, j: usize) -> bool
+    ensures { λ r. ⌜ r ≡ entry (now (before .entry)) i j ⌝ }
+{
     if i >= MOST {
         return false;
     }
@@ -190,14 +310,4 @@ pub fn at(before: &[bool; 64], i: usize, j: usize) -> bool {
         return false;
     }
     before[8 * j + i]
-}
-
-fn put(before: &mut [bool; 64], i: usize, j: usize, b: bool) {
-    if i >= MOST {
-        return;
-    }
-    if j >= MOST {
-        return;
-    }
-    before[8 * j + i] = b;
 }

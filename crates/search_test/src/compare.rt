@@ -1,5 +1,4 @@
 // A run and a session held to what the search found.
-use crate::orders;
 use crate::truth::Truth;
 use command::EventRead;
 use log::LogRead;
@@ -138,7 +137,7 @@ fn slot_named_well(t: Truth, count: usize, numbers: [u16; 5], i: usize) -> bool 
     if 5 <= i {
         return false;
     }
-    fills(t, count, i, numbers[i]) && in_sequence(t, numbers, i)
+    fills(t, count, i, numbers[i]) && none_too_early(t, numbers, i)
 }
 
 // Whether the event of that number is within the count, and fits slot i.
@@ -158,11 +157,11 @@ fn fills(t: Truth, count: usize, i: usize, number: u16) -> bool {
     }
     let k = t.sketch;
     let l = t.leading;
-    orders::fits(k.slots[i], l.events[n - 1])
+    k.slots[i] == l.events[n - 1]
 }
 
 // Whether for no slot after slot i its event comes before slot i's event or is it.
-fn in_sequence(t: Truth, numbers: [u16; 5], i: usize) -> bool {
+fn none_too_early(t: Truth, numbers: [u16; 5], i: usize) -> bool {
     if 5 <= i {
         return false;
     }

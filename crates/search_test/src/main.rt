@@ -1,7 +1,8 @@
-// Holds runs and sessions to a plain search through all orders of many small logs, and prints how many were compared.
+// Holds runs, sessions and order queries to a plain search through all orders of many small logs, and prints how many were compared.
 mod compare;
 mod known;
 mod orders;
+mod pairs;
 mod patterns;
 mod tally;
 mod truth;
@@ -9,53 +10,51 @@ mod truth;
 use log::LogRead;
 use plain::drawn;
 use plain::drawn::Draft;
-use tally::Tally;
+use tally::COUNTS;
 use truth::Truth;
 
 const LOGS: usize = 100000;
-
-// The counts so far, and the last number drawn.
-struct Turn {
-    tally: Tally,
-    drawn: u32,
-}
 
 fn main() {
     let mut queue = [0u32; orders::ORDERS];
     let mut seen = [false; orders::MARKS];
     let mut log = [0u8; 64];
     let mut pattern = [0u8; 32];
-    known::run(&mut queue, &mut seen);
-    let tally = all(&mut queue, &mut seen, &mut log, &mut pattern);
-    tally.print();
+    let mut counts = [0u64; COUNTS];
+    known::run(&mut queue, &mut seen, &mut counts);
+    all(&mut queue, &mut seen, &mut log, &mut pattern, &mut counts);
+    tally::print(&counts);
 }
 
-fn all(queue: &mut [u32], seen: &mut [bool], log: &mut [u8], pattern: &mut [u8]) -> Tally {
-    let mut t = Turn {
-        tally: tally::fresh(),
-        drawn: 2,
-    };
+fn all(
+    queue: &mut [u32],
+    seen: &mut [bool],
+    log: &mut [u8],
+    pattern: &mut [u8],
+    counts: &mut [u64; COUNTS],
+) {
+    let mut drawn: u32 = 2;
     for n in 0..LOGS {
-        t = on_next(queue, seen, log, pattern, t, (n % 4) as u8);
+        drawn = on_next(queue, seen, log, pattern, counts, drawn, (n % 4) as u8);
     }
-    t.tally
 }
 
-// Draws one log.
+// Draws one log; the last number drawn.
 fn on_next(
     queue: &mut [u32],
     seen: &mut [bool],
     log: &mut [u8],
     pattern: &mut [u8],
-    t: Turn,
+    counts: &mut [u64; COUNTS],
+    drawn: u32,
     mix: u8,
-) -> Turn {
-    let made = make(log, t.drawn, mix);
+) -> u32 {
+    let made = make(log, drawn, mix);
     let size = made.at;
     if log.len() < size {
-        return t;
+        return drawn;
     }
-    on_log(queue, seen, &log[..size], pattern, t.tally, made.drawn)
+    on_log(queue, seen, &log[..size], pattern, counts, made.drawn)
 }
 
 fn make(log: &mut [u8], drawn: u32, mix: u8) -> Draft {
@@ -65,40 +64,34 @@ fn make(log: &mut [u8], drawn: u32, mix: u8) -> Draft {
     drawn::make_mixed(log, drawn, mix)
 }
 
-// Draws a pattern for the log.
+// Draws a pattern for the log, and compares.
 fn on_log(
     queue: &mut [u32],
     seen: &mut [bool],
     log: &[u8],
     pattern: &mut [u8],
-    tally: Tally,
+    counts: &mut [u64; COUNTS],
     from: u32,
-) -> Turn {
+) -> u32 {
     let leading = plain::read(log);
     let sketch = patterns::draw(leading, from);
     let size = patterns::write(pattern, sketch);
     let truth = truth::of(queue, seen, leading, sketch);
-    let drawn = sketch.drawn;
-    if pattern.len() < size {
-        return Turn { tally, drawn };
+    if size <= pattern.len() {
+        compared(&pattern[..size], log, truth, counts);
     }
-    let after = compared(&pattern[..size], log, truth, tally);
-    Turn {
-        tally: after,
-        drawn,
-    }
+    pairs::of(log, leading, counts);
+    sketch.drawn
 }
 
-fn compared(pattern: &[u8], log: &[u8], t: Truth, tally: Tally) -> Tally {
+fn compared(pattern: &[u8], log: &[u8], t: Truth, counts: &mut [u64; COUNTS]) {
     let read = log::read_log(log);
-    let counted = tally.log(read, t);
+    tally::log(counts, read, t);
     if agree(pattern, log, t, read) {
-        return counted;
+        return;
     }
-    if counted.disagreements < 5 {
-        disagreement(pattern, log);
-    }
-    counted.disagreed()
+    disagreement(pattern, log);
+    tally::add(counts, tally::DISAGREEMENTS, 1);
 }
 
 fn agree(pattern: &[u8], log: &[u8], t: Truth, read: LogRead) -> bool {
@@ -106,9 +99,9 @@ fn agree(pattern: &[u8], log: &[u8], t: Truth, read: LogRead) -> bool {
 }
 
 fn disagreement(pattern: &[u8], log: &[u8]) {
-    console::text(b"DISAGREEMENT on pattern");
+    console::text(b"DISAGREEMENT:");
     console::bytes(pattern);
-    console::text(b", log");
+    console::text(b",");
     console::bytes(log);
     console::text(b"\n");
 }

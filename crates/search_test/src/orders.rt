@@ -1,6 +1,5 @@
 // The plain search: every order that swaps of neighbouring independent events make of a list of at most seven, gone through one by one.
 use plain::MOST;
-use plain::Plain;
 
 // Seven events have so many orders at most.
 pub const ORDERS: usize = 5040;
@@ -10,43 +9,46 @@ pub const MARKS: usize = 262144;
 
 // Whether the first `count` events have an order that holds the slots, `size` of them.
 pub struct Question {
-    pub events: [Plain; MOST],
+    pub events: [u32; MOST],
     pub count: usize,
-    pub slots: [Plain; 5],
+    pub slots: [u32; 5],
     pub size: usize,
 }
 
-// The answer, and how many orders were looked at.
+// The answer, how many orders were looked at, and how many were found.
 pub struct Searched {
     pub holds: bool,
     pub orders: u64,
+    pub found: usize,
 }
 
 // Goes from order to order by single swaps, and stops at the first that holds the slots. `seen` is all false, and is so again afterwards.
 pub(crate) fn search(queue: &mut [u32], seen: &mut [bool], q: Question) -> Searched {
-    let mut tail = put(queue, seen, number_of([0, 1, 2, 3, 4, 5, 6]), 0);
+    let s = explore(queue, seen, q);
+    clear(queue, seen, s.found);
+    s
+}
+
+fn explore(queue: &mut [u32], seen: &mut [bool], q: Question) -> Searched {
+    let mut found = put(queue, seen, number_of([0, 1, 2, 3, 4, 5, 6]), 0);
     for head in 0..ORDERS {
-        if head >= tail {
-            clear(queue, seen, tail);
-            return Searched {
-                holds: false,
-                orders: head as u64,
-            };
+        if head >= found {
+            return result_of(false, head, found);
         }
         let order = order_of(at(queue, head));
         if holds(order, q) {
-            clear(queue, seen, tail);
-            return Searched {
-                holds: true,
-                orders: head as u64 + 1,
-            };
+            return result_of(true, head + 1, found);
         }
-        tail = neighbours(queue, seen, order, q, tail);
+        found = neighbours(queue, seen, order, q, found);
     }
-    clear(queue, seen, tail);
+    result_of(false, ORDERS, found)
+}
+
+fn result_of(holds: bool, orders: usize, found: usize) -> Searched {
     Searched {
-        holds: false,
-        orders: ORDERS as u64,
+        holds,
+        orders: orders as u64,
+        found,
     }
 }
 
@@ -115,7 +117,7 @@ fn holds(order: [usize; 7], q: Question) -> bool {
     q.size <= slot
 }
 
-// How many slots are filled after place i, where the event stands.
+// How many slots are filled after place i, where the event stands. An event and a slot that it fits have the same number.
 fn filled(q: Question, slot: usize, i: usize, event: usize) -> usize {
     if q.count <= i || q.size <= slot {
         return slot;
@@ -126,15 +128,10 @@ fn filled(q: Question, slot: usize, i: usize, event: usize) -> usize {
     if MOST <= event {
         return slot;
     }
-    if fits(q.slots[slot], q.events[event]) {
+    if q.slots[slot] == q.events[event] {
         return slot + 1;
     }
     slot
-}
-
-// "An event fits a slot when operation, thread and object are equal."
-pub(crate) fn fits(slot: Plain, e: Plain) -> bool {
-    slot.kind == e.kind && slot.thread == e.thread && slot.object == e.object
 }
 
 // An order as a number: a digit in base 8 for each place, the first place highest.

@@ -1,14 +1,12 @@
 // Patterns of one to five slots drawn by number, most slots being those of the log's own events.
-use crate::orders;
 use event::Slot;
 use event::SlotOperation;
 use plain::Leading;
-use plain::Plain;
 use plain::drawn;
 
 // The slots in numbers, `size` of them, and the last number drawn.
 pub struct Sketch {
-    pub slots: [Plain; 5],
+    pub slots: [u32; 5],
     pub size: usize,
     pub drawn: u32,
 }
@@ -56,7 +54,7 @@ fn next(place: usize, drawn: u32) -> usize {
 }
 
 // The slot of an event; at times one of another operation, or a mark that no log here has.
-fn slot_from(l: Leading, place: usize, drawn: u32) -> Plain {
+fn slot_from(l: Leading, place: usize, drawn: u32) -> u32 {
     let count = l.count;
     if count < 1 {
         return strange(0);
@@ -65,40 +63,33 @@ fn slot_from(l: Leading, place: usize, drawn: u32) -> Plain {
     if i >= plain::MOST {
         return strange(0);
     }
+    let e = l.events[i];
     match drawn / 1048576 % 32 {
-        0 => strange(l.events[i].thread),
-        1 => turned(l.events[i]),
-        _ => l.events[i],
+        0 => strange((plain::thread(e) % 256) as u8),
+        1 => turned(e),
+        _ => e,
     }
 }
 
-fn strange(thread: u16) -> Plain {
-    Plain {
-        thread,
-        kind: plain::MARK,
-        object: 65535,
-    }
+fn strange(thread: u8) -> u32 {
+    plain::number(plain::MARK, thread, 65535)
 }
 
 // The same with the other operation on its variable, lock or child.
-fn turned(a: Plain) -> Plain {
-    Plain {
-        thread: a.thread,
-        kind: other(a.kind),
-        object: a.object,
+fn turned(a: u32) -> u32 {
+    match plain::kind(a) {
+        1 | 3 | 5 => a % 268435456 + 16777216,
+        2 | 4 | 6 => before(a),
+        _ => a,
     }
 }
 
-fn other(kind: u8) -> u8 {
-    match kind {
-        1 => plain::WRITE,
-        2 => plain::READ,
-        3 => plain::RELEASE,
-        4 => plain::ACQUIRE,
-        5 => plain::JOIN,
-        6 => plain::FORK,
-        _ => plain::MARK,
+// The same of the kind before.
+fn before(a: u32) -> u32 {
+    if a < 16777216 {
+        return a;
     }
+    a - 16777216
 }
 
 fn mixed(k: Sketch, times: usize) -> Sketch {
@@ -126,7 +117,7 @@ fn exchanged(k: Sketch) -> Sketch {
     }
 }
 
-fn exchanged_at(slots: [Plain; 5], i: usize, j: usize) -> [Plain; 5] {
+fn exchanged_at(slots: [u32; 5], i: usize, j: usize) -> [u32; 5] {
     if 5 <= i {
         return slots;
     }
@@ -155,7 +146,7 @@ fn repeated(k: Sketch, j: usize) -> bool {
         return false;
     }
     for i in 0..5 {
-        if i < j && orders::fits(k.slots[i], k.slots[j]) {
+        if i < j && k.slots[i] == k.slots[j] {
             return true;
         }
     }
@@ -179,15 +170,15 @@ fn write_one(buffer: &mut [u8], at: usize, k: Sketch, i: usize) -> usize {
     drawn::place_after(writer::write_slot(buffer, at, slot), at)
 }
 
-fn slot_of(a: Plain) -> Slot {
-    let operation = operation_of(a.kind, a.object);
+fn slot_of(a: u32) -> Slot {
+    let operation = operation_of(plain::kind(a), (a % 65536) as u16);
     Slot {
-        thread: (a.thread % 256) as u8,
+        thread: (plain::thread(a) % 256) as u8,
         operation,
     }
 }
 
-fn operation_of(kind: u8, object: u16) -> SlotOperation {
+fn operation_of(kind: u32, object: u16) -> SlotOperation {
     let low = (object % 256) as u8;
     match kind {
         1 => SlotOperation::Read { variable: low },

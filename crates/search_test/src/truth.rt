@@ -44,6 +44,7 @@ fn of_first(queue: &mut [u32], seen: &mut [bool], l: Leading, k: Sketch, n: usiz
         return Searched {
             holds: false,
             orders: 0,
+            found: 0,
         };
     }
     orders::search(queue, seen, question(l, k, n))

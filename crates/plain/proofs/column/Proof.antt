@@ -1,23 +1,34 @@
--- `plain::column` is safe and ends. The loop counts to eight; what falls is the number of places left.
+-- `plain::column` meets its contract. The loop has made the entries of the events before the place; what falls is the number of places left.
 use Prim.Native.Nat.{_-_, _≤_}
+use native.Mathlib.Omega.{arith}
+use native.Mathlib.Numerals.{add-one}
+use mathlib.Core.Path.{_≡_, refl}
 use borrow.Author.Needs.{needs}
+use Rattle.plain.specs.Chains.{columnTo}
 use Rattle.plain.proofs.column.Statement.{statement}
 use Rattle.plain.proofs.column.Tie as tie
 
 abbrev Inv-loop : tie.InvT-loop
-Inv-loop before₀ events j i₀ before i = i ≤ 8
+Inv-loop before₀ events j i₀ before i = (i ≤ 8) × (before ≡ columnTo i events j before₀)
 
 abbrev μ-loop : tie.MeasureT-loop
 μ-loop before₀ events j i₀ before i = 8 - i
 
 loop-holds : tie.Need-loop-holds Inv-loop μ-loop
-loop-holds c = search needs
+unfolding columnTo
+loop-holds c = (search needs, refl)
 
 reaches-requires : tie.Need-reaches-requires Inv-loop μ-loop
 reaches-requires c κs = search needs
 
-put-requires : tie.Need-put-requires Inv-loop μ-loop
-put-requires c κs = search needs
+mul-before : tie.Need-mul-before Inv-loop μ-loop
+mul-before c = search needs
+
+add-before : tie.Need-add-before Inv-loop μ-loop
+add-before c = search needs
+
+element-write-before : tie.Need-element-write-before Inv-loop μ-loop
+element-write-before c = search needs
 
 add-i : tie.Need-add-i Inv-loop μ-loop
 add-i c = search needs
@@ -26,10 +37,11 @@ loop-less : tie.Need-loop-less Inv-loop μ-loop
 loop-less c = search needs
 
 loop-again : tie.Need-loop-again Inv-loop μ-loop
-loop-again c = search needs
+unfolding columnTo
+loop-again c = (search needs, rw (add-one, ← c .before .before .before .loop .inv .1, c .reaches .ensures))
 
 returns : tie.Need-returns Inv-loop μ-loop
-returns c = search needs
+returns c = let e : c .before .loop .i ≡ 8 = omega arith in rw e at (c .before .loop .inv .1)
 
 pub column-spec : {M : Type 1} → statement M
 column-spec =
@@ -39,7 +51,9 @@ column-spec =
     μ-loop
     loop-holds
     reaches-requires
-    put-requires
+    mul-before
+    add-before
+    element-write-before
     add-i
     loop-less
     loop-again

@@ -1,26 +1,25 @@
--- `plain::holds` is safe and ends. The loop counts to eight; what falls is the number of places left.
+-- `plain::holds` meets its contract. The loop has found what stands before the place; what falls is the number of places left.
 use Prim.Native.Nat.{_-_, _≤_}
+use native.Mathlib.Omega.{arith}
+use native.Mathlib.Numerals.{add-one}
+use mathlib.Core.Path.{_≡_, refl}
 use borrow.Author.Needs.{needs}
+use Rattle.plain.specs.Chains.{holdsTo}
 use Rattle.plain.proofs.holds.Statement.{statement}
 use Rattle.plain.proofs.holds.Tie as tie
 
 abbrev Inv-loop : tie.InvT-loop
-Inv-loop kind l n₀ n = n ≤ 8
+Inv-loop kind events count found₀ n₀ found n = (n ≤ 8) × (found ≡ holdsTo n events count kind)
 
 abbrev μ-loop : tie.MeasureT-loop
-μ-loop kind l n₀ n = 8 - n
+μ-loop kind events count found₀ n₀ found n = 8 - n
 
 loop-holds : tie.Need-loop-holds Inv-loop μ-loop
-loop-holds c = search needs
+unfolding holdsTo
+loop-holds c = (search needs, refl)
 
-mul-if2 : tie.Need-mul-if2 Inv-loop μ-loop
-mul-if2 c = search needs
-
-element-copy-out-if2 : tie.Need-element-copy-out-if2 Inv-loop μ-loop
-element-copy-out-if2 c = search needs
-
-returns : tie.Need-returns Inv-loop μ-loop
-returns c = search needs
+found-at-requires : tie.Need-found-at-requires Inv-loop μ-loop
+found-at-requires c κs = search needs
 
 add-n : tie.Need-add-n Inv-loop μ-loop
 add-n c = search needs
@@ -29,22 +28,13 @@ loop-less : tie.Need-loop-less Inv-loop μ-loop
 loop-less c = search needs
 
 loop-again : tie.Need-loop-again Inv-loop μ-loop
-loop-again c = search needs
+unfolding holdsTo
+loop-again c = (search needs, rw (add-one, ← c .before .before .loop .inv .1) (c .found-at .ensures))
 
-returns-2 : tie.Need-returns-2 Inv-loop μ-loop
-returns-2 c = search needs
+returns : tie.Need-returns Inv-loop μ-loop
+returns c = let e : c .before .loop .n ≡ 8 = omega arith in rw e at (c .before .loop .inv .1)
 
 pub holds-spec : {M : Type 1} → statement M
 holds-spec =
     tie.close
-    (tie.spec
-    Inv-loop
-    μ-loop
-    loop-holds
-    mul-if2
-    element-copy-out-if2
-    returns
-    add-n
-    loop-less
-    loop-again
-    returns-2)
+    (tie.spec Inv-loop μ-loop loop-holds found-at-requires add-n loop-less loop-again returns)

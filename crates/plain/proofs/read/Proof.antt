@@ -10,9 +10,6 @@ Inv-loop log events₀ at₀ n₀ events at n = n ≤ 8
 abbrev μ-loop : tie.MeasureT-loop
 μ-loop log events₀ at₀ n₀ events at n = 8 - n
 
-made-requires : tie.Need-made-requires Inv-loop μ-loop
-made-requires c κs = search needs
-
 loop-holds : tie.Need-loop-holds Inv-loop μ-loop
 loop-holds c = search needs
 
@@ -25,14 +22,14 @@ enum-known-step c = search needs
 returns : tie.Need-returns Inv-loop μ-loop
 returns c = search needs
 
-in-numbers-requires : tie.Need-in-numbers-requires Inv-loop μ-loop
-in-numbers-requires c κs = search needs
+number-of-requires : tie.Need-number-of-requires Inv-loop μ-loop
+number-of-requires c κs = search needs
 
 mul-events : tie.Need-mul-events Inv-loop μ-loop
 mul-events c = search needs
 
-array-set-from-events : tie.Need-array-set-from-events Inv-loop μ-loop
-array-set-from-events c = search needs
+array-write-events : tie.Need-array-write-events Inv-loop μ-loop
+array-write-events c = search needs
 
 add-n : tie.Need-add-n Inv-loop μ-loop
 add-n c = search needs
@@ -52,14 +49,13 @@ read-spec =
     (tie.spec
     Inv-loop
     μ-loop
-    made-requires
     loop-holds
     read-event-requires
     enum-known-step
     returns
-    in-numbers-requires
+    number-of-requires
     mul-events
-    array-set-from-events
+    array-write-events
     add-n
     loop-less
     loop-again

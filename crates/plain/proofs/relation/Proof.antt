@@ -1,17 +1,22 @@
--- `plain::relation` is safe and ends. The loop counts to eight; what falls is the number of places left.
+-- `plain::relation` meets its contract. The loop has made the columns of the events before the place; what falls is the number of places left.
 use Prim.Native.Nat.{_-_, _≤_}
+use native.Mathlib.Omega.{arith}
+use native.Mathlib.Numerals.{add-one}
+use mathlib.Core.Path.{_≡_, refl}
 use borrow.Author.Needs.{needs}
+use Rattle.plain.specs.Chains.{columnsTo}
 use Rattle.plain.proofs.relation.Statement.{statement}
 use Rattle.plain.proofs.relation.Tie as tie
 
 abbrev Inv-loop : tie.InvT-loop
-Inv-loop events before₀ j₀ before j = j ≤ 8
+Inv-loop events before₀ j₀ before j = (j ≤ 8) × (before ≡ columnsTo j events)
 
 abbrev μ-loop : tie.MeasureT-loop
 μ-loop events before₀ j₀ before j = 8 - j
 
 loop-holds : tie.Need-loop-holds Inv-loop μ-loop
-loop-holds c = search needs
+unfolding columnsTo
+loop-holds c = (search needs, refl)
 
 column-requires : tie.Need-column-requires Inv-loop μ-loop
 column-requires c κs = search needs
@@ -23,10 +28,11 @@ loop-less : tie.Need-loop-less Inv-loop μ-loop
 loop-less c = search needs
 
 loop-again : tie.Need-loop-again Inv-loop μ-loop
-loop-again c = search needs
+unfolding columnsTo
+loop-again c = (search needs, rw (add-one, ← c .before .before .before .loop .inv .1) (c .column .ensures))
 
 returns : tie.Need-returns Inv-loop μ-loop
-returns c = search needs
+returns c = let e : c .before .loop .j ≡ 8 = omega arith in rw e at (c .before .loop .inv .1)
 
 pub relation-spec : {M : Type 1} → statement M
 relation-spec =

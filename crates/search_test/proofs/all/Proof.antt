@@ -1,5 +1,5 @@
 -- `search_test::all` is safe and ends. The loop keeps the lengths of what is lent; what falls is the number of logs left.
-use Prim.Native.Nat.{_-_, _≤_}
+use Prim.Native.Nat.{_-_, _≤_, _<_}
 use mathlib.Core.Path.{_≡_}
 use lib.ListN.{length}
 use borrow.Author.Needs.{needs}
@@ -7,13 +7,10 @@ use Rattle.search_test.proofs.all.Statement.{statement}
 use Rattle.search_test.proofs.all.Tie as tie
 
 abbrev Inv-loop : tie.InvT-loop
-Inv-loop queue₀ seen₀ log₀ pattern₀ t₀ n₀ queue seen log pattern t n = (n ≤ 100000) × (length queue ≡ length queue₀) × (length seen ≡ length seen₀) × (length log ≡ length log₀) × (length pattern ≡ length pattern₀)
+Inv-loop queue₀ seen₀ log₀ pattern₀ counts₀ drawn₀ n₀ queue seen log pattern counts drawn n = (n ≤ 100000) × (length queue ≡ length queue₀) × (length seen ≡ length seen₀) × (length log ≡ length log₀) × (length pattern ≡ length pattern₀)
 
 abbrev μ-loop : tie.MeasureT-loop
-μ-loop queue₀ seen₀ log₀ pattern₀ t₀ n₀ queue seen log pattern t n = 100000 - n
-
-fresh-requires : tie.Need-fresh-requires Inv-loop μ-loop
-fresh-requires c κs = search needs
+μ-loop queue₀ seen₀ log₀ pattern₀ counts₀ drawn₀ n₀ queue seen log pattern counts drawn n = 100000 - n
 
 loop-holds : tie.Need-loop-holds Inv-loop μ-loop
 loop-holds c = search needs
@@ -54,7 +51,6 @@ all-spec =
     (tie.spec
     Inv-loop
     μ-loop
-    fresh-requires
     loop-holds
     cast-on-next
     on-next-requires

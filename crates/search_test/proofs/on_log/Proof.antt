@@ -2,8 +2,8 @@
 use native.Mathlib.Omega.{arith}
 use lib.ListN.{length-take}
 use borrow.Author.Needs.{needs}
-use Rattle.search_test.proofs.on_log.Tie as tie
 use Rattle.search_test.proofs.on_log.Statement.{statement}
+use Rattle.search_test.proofs.on_log.Tie as tie
 
 read-requires : tie.Need-read-requires
 read-requires c κs = search needs
@@ -17,6 +17,18 @@ write-requires c κs = search needs
 of-requires : tie.Need-of-requires
 of-requires c κs = search needs
 
+slice-reshare-prefix-compared : tie.Need-slice-reshare-prefix-compared
+slice-reshare-prefix-compared c = search needs
+
+slice-aggregate-compared : tie.Need-slice-aggregate-compared
+slice-aggregate-compared c = simp (length-take) (omega arith)
+
+compared-requires : tie.Need-compared-requires
+compared-requires c κs = search needs
+
+of-requires-2 : tie.Need-of-requires-2
+of-requires-2 c κs = search needs
+
 same-length : tie.Need-same-length
 same-length c = search needs
 
@@ -29,27 +41,6 @@ same-length-3 c = search needs
 returns : tie.Need-returns
 returns c = search needs
 
-slice-reshare-prefix-compared : tie.Need-slice-reshare-prefix-compared
-slice-reshare-prefix-compared c = search needs
-
-slice-aggregate-compared : tie.Need-slice-aggregate-compared
-slice-aggregate-compared c = simp (length-take) (omega arith)
-
-compared-requires : tie.Need-compared-requires
-compared-requires c κs = search needs
-
-same-length-4 : tie.Need-same-length-4
-same-length-4 c = search needs
-
-same-length-5 : tie.Need-same-length-5
-same-length-5 c = search needs
-
-same-length-6 : tie.Need-same-length-6
-same-length-6 c = search needs
-
-returns-2 : tie.Need-returns-2
-returns-2 c = search needs
-
 pub on-log-spec : {M : Type 1} → statement M
 on-log-spec =
     tie.close
@@ -58,14 +49,11 @@ on-log-spec =
     draw-requires
     write-requires
     of-requires
-    same-length
-    same-length-2
-    same-length-3
-    returns
     slice-reshare-prefix-compared
     slice-aggregate-compared
     compared-requires
-    same-length-4
-    same-length-5
-    same-length-6
-    returns-2)
+    of-requires-2
+    same-length
+    same-length-2
+    same-length-3
+    returns)

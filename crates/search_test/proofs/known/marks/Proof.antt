@@ -1,8 +1,10 @@
 -- `search_test::known::marks` is safe and ends. What falls is the number of events left.
-use Prim.Native.Nat.{_-_, _≤_}
+use Prim.Native.Nat.{_-_, _≤_, _<_}
+use mathlib.Core.Path.{_≡_}
+use lib.ListN.{length}
 use borrow.Author.Needs.{needs}
-use Rattle.search_test.proofs.known.marks.Tie as tie
 use Rattle.search_test.proofs.known.marks.Statement.{statement}
+use Rattle.search_test.proofs.known.marks.Tie as tie
 
 abbrev Inv-loop : tie.InvT-loop
 Inv-loop threads events₀ next₀ i₀ events next i = i ≤ 8
@@ -22,8 +24,8 @@ mark-requires-2 c κs = search needs
 mul-events : tie.Need-mul-events Inv-loop μ-loop
 mul-events c = search needs
 
-array-set-from-events : tie.Need-array-set-from-events Inv-loop μ-loop
-array-set-from-events c = search needs
+array-write-events : tie.Need-array-write-events Inv-loop μ-loop
+array-write-events c = search needs
 
 after-requires : tie.Need-after-requires Inv-loop μ-loop
 after-requires c κs = search needs
@@ -50,7 +52,7 @@ marks-spec =
     loop-holds
     mark-requires-2
     mul-events
-    array-set-from-events
+    array-write-events
     after-requires
     add-i
     loop-less

@@ -1,5 +1,7 @@
 -- `search_test::patterns::in_sequence` is safe and ends. What falls is the number of slots left.
-use Prim.Native.Nat.{_-_, _≤_}
+use Prim.Native.Nat.{_-_, _≤_, _<_}
+use mathlib.Core.Path.{_≡_}
+use lib.ListN.{length}
 use borrow.Author.Needs.{needs}
 use Rattle.search_test.proofs.patterns.in_sequence.Statement.{statement}
 use Rattle.search_test.proofs.patterns.in_sequence.Tie as tie
@@ -28,8 +30,8 @@ slot-from-requires c κs = search needs
 mul-slots : tie.Need-mul-slots Inv-loop μ-loop
 mul-slots c = search needs
 
-array-set-from-slots : tie.Need-array-set-from-slots Inv-loop μ-loop
-array-set-from-slots c = search needs
+array-write-slots : tie.Need-array-write-slots Inv-loop μ-loop
+array-write-slots c = search needs
 
 next-requires : tie.Need-next-requires Inv-loop μ-loop
 next-requires c κs = search needs
@@ -61,7 +63,7 @@ in-sequence-spec =
     draw-requires
     slot-from-requires
     mul-slots
-    array-set-from-slots
+    array-write-slots
     next-requires
     add-i
     loop-less

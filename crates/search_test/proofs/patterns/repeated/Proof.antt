@@ -1,5 +1,7 @@
 -- `search_test::patterns::repeated` is safe and ends. What falls is the number of slots left.
-use Prim.Native.Nat.{_-_, _≤_}
+use Prim.Native.Nat.{_-_, _≤_, _<_}
+use mathlib.Core.Path.{_≡_}
+use lib.ListN.{length}
 use borrow.Author.Needs.{needs}
 use Rattle.search_test.proofs.patterns.repeated.Statement.{statement}
 use Rattle.search_test.proofs.patterns.repeated.Tie as tie
@@ -16,20 +18,17 @@ returns c = search needs
 loop-holds : tie.Need-loop-holds Inv-loop μ-loop
 loop-holds c = search needs
 
-mul-fits : tie.Need-mul-fits Inv-loop μ-loop
-mul-fits c = search needs
+mul-if3 : tie.Need-mul-if3 Inv-loop μ-loop
+mul-if3 c = search needs
 
-element-copy-out-fits : tie.Need-element-copy-out-fits Inv-loop μ-loop
-element-copy-out-fits c = search needs
+element-copy-out-if3 : tie.Need-element-copy-out-if3 Inv-loop μ-loop
+element-copy-out-if3 c = search needs
 
-mul-fits-2 : tie.Need-mul-fits-2 Inv-loop μ-loop
-mul-fits-2 c = search needs
+mul-if3-2 : tie.Need-mul-if3-2 Inv-loop μ-loop
+mul-if3-2 c = search needs
 
-element-copy-out-fits-2 : tie.Need-element-copy-out-fits-2 Inv-loop μ-loop
-element-copy-out-fits-2 c = search needs
-
-fits-requires : tie.Need-fits-requires Inv-loop μ-loop
-fits-requires c κs = search needs
+element-copy-out-if3-2 : tie.Need-element-copy-out-if3-2 Inv-loop μ-loop
+element-copy-out-if3-2 c = search needs
 
 returns-2 : tie.Need-returns-2 Inv-loop μ-loop
 returns-2 c = search needs
@@ -54,11 +53,10 @@ repeated-spec =
     μ-loop
     returns
     loop-holds
-    mul-fits
-    element-copy-out-fits
-    mul-fits-2
-    element-copy-out-fits-2
-    fits-requires
+    mul-if3
+    element-copy-out-if3
+    mul-if3-2
+    element-copy-out-if3-2
     returns-2
     add-i
     loop-less

@@ -1,0 +1,11 @@
+-- The listing of two files. No contract can say which bytes the system reads of a file.
+use Prim.Native.Nat.{ℕ}
+use mathlib.Core.List.{List}
+use Rattle.writer.specs.declared.Written.{Written}
+use Rattle.listing_text.specs.Listing.{ListedIn}
+
+-- the buffer before and after, and the answer: they are those of the listing of some pattern and some log
+pub record SomeListing (before after : List ℕ) (r : Written) : Type 0 where
+  pub pattern : List ℕ
+  pub log : List ℕ
+  pub listed : ListedIn pattern log before after r

@@ -1,0 +1,2 @@
+-- Laws on tests, for the proofs of single functions.
+mod Answers

@@ -1,0 +1,29 @@
+// Events handed to the rules one by one: the refusal, and the state unchanged by it.
+use crate::buffers;
+use event::Event;
+
+// The state of no events.
+pub(crate) fn renew(state: &mut [u8; rules::STATE]) {
+    *state = rules::fresh();
+}
+
+// Hands over one event, the number of events taken before it given.
+pub(crate) fn admit(state: &mut [u8; rules::STATE], taken: usize, e: Event) {
+    let before = *state;
+    let k = rules::admit(state, taken, e);
+    answer(k, &before, state);
+}
+
+fn answer(k: u8, before: &[u8; rules::STATE], after: &[u8; rules::STATE]) {
+    if k == 0 {
+        console::text(b": taken\n");
+        return;
+    }
+    console::text(b": refused ");
+    console::number(k as u64);
+    if buffers::same(before, after) {
+        console::text(b", state unchanged\n");
+        return;
+    }
+    console::text(b", STATE CHANGED\n");
+}

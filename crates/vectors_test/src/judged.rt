@@ -1,0 +1,114 @@
+// What order queries, runs and sessions say.
+use command::Decoded;
+use event::Event;
+use order::Order;
+use session::Answer;
+use session::Found;
+use session::Outcome;
+use session::Session;
+use session::Verdict;
+
+// Whether one event of the log comes before another or is it.
+pub(crate) fn order(log: &[u8], first: usize, second: usize) {
+    match order::query(log, first, second) {
+        Order::Yes => console::text(b"yes"),
+        Order::No => console::text(b"no"),
+        Order::LogRefused { number, offset } => console::refusal(number, offset),
+        Order::QueryRefused { number, offset } => {
+            console::text(b"query ");
+            console::refusal(number, offset);
+        }
+    }
+}
+
+// What a run says, and what a session says once it has been handed the events before the first that can not be read.
+pub(crate) fn both(log: &[u8], pattern: &[u8]) {
+    console::text(b"\n  run: ");
+    run(log, pattern);
+    console::text(b"\n  session: ");
+    let opened = Session::open(pattern);
+    let s = handed(opened.session, log);
+    show_verdict(s.verdict());
+}
+
+pub(crate) fn run(log: &[u8], pattern: &[u8]) {
+    let judged = session::run(pattern, log);
+    let outcome = judged.outcome;
+    let numbers = judged.numbers;
+    show_outcome(outcome);
+    show_numbers(numbers);
+}
+
+// Hands an event to a session so many times and once more, and shows the last answer and the verdict.
+pub(crate) fn more(e: Event, pattern: &[u8], count: usize) {
+    let opened = Session::open(pattern);
+    let s = repeated(opened.session, e, count);
+    let h = s.take(e);
+    let answer = h.answer;
+    show_answer(answer);
+    console::text(b"\nthen: ");
+    let last = h.session;
+    show_verdict(last.verdict());
+}
+
+fn handed(from: Session, log: &[u8]) -> Session {
+    let mut s = from;
+    let mut at: usize = 0;
+    loop {
+        let step = command::decode(log, at, true);
+        let Decoded::Command { event, next } = step else {
+            return s;
+        };
+        let h = s.take(event);
+        let answer = h.answer;
+        show_answer(answer);
+        console::text(b", ");
+        s = h.session;
+        at = next;
+    }
+}
+
+// The session after `count` times the event.
+fn repeated(from: Session, e: Event, count: usize) -> Session {
+    let mut s = from;
+    for n in 0..count {
+        let h = s.take(e);
+        s = h.session;
+    }
+    s
+}
+
+// The event number of each slot, a space before it.
+fn show_numbers(numbers: [u16; 5]) {
+    console::text(b", events");
+    for i in 0..5 {
+        console::text(b" ");
+        console::number(numbers[i] as u64);
+    }
+}
+
+fn show_outcome(outcome: Outcome) {
+    match outcome {
+        Outcome::Match { count } => console::numbered(b"match at ", count as u64),
+        Outcome::None => console::text(b"no match"),
+        Outcome::PatternRefused { number, offset } => console::pattern_refusal(number, offset),
+        Outcome::LogRefused { number, offset } => console::refusal(number, offset),
+    }
+}
+
+fn show_verdict(v: Verdict) {
+    let found = v.found;
+    match found {
+        Found::Match { count } => console::numbered(b"match at ", count as u64),
+        Found::None => console::text(b"no match"),
+    }
+    let numbers = v.numbers;
+    show_numbers(numbers);
+}
+
+fn show_answer(a: Answer) {
+    match a {
+        Answer::Taken => console::text(b"taken"),
+        Answer::Refused { number, offset } => console::refusal(number, offset),
+    }
+}
