@@ -22,9 +22,10 @@ use Rattle.session.specs.declared.Session.{Session}
 use Rattle.session.specs.declared.Opened.{Opened}
 use Rattle.session.specs.declared.Found.{Found}
 use Rattle.session.specs.declared.Found.the-variants.{Match, None}
-use Rattle.session.specs.declared.Outcome as session
-use Rattle.session.specs.Answers.{refusal, answerIs, foundIs, outcomeIs, nothing, Given}
-use Rattle.session.specs.Model.{slotsUsed, freshOn, Kept, keptOf, sessionOn, keptAfter, answerBy, handed, foundAt, asOutcome}
+use Rattle.run.specs.declared.Outcome as run
+use Rattle.session.specs.Answers.{refusal, answerIs, foundIs, nothing, Given}
+use Rattle.run.specs.Answers.{outcomeIs, asOutcome}
+use Rattle.session.specs.Model.{slotsUsed, freshOn, Kept, keptOf, sessionOn, keptAfter, answerBy, handed, foundAt}
 use Rattle.session.specs.Meaning.{takenBy, Describes, VerdictOf, OpenedOn}
 use Rattle.session.proofs.Described.{fresh-described, used-good, handed-described, verdict-described}
 use Rattle.table.specs.Table.{numbersIn}
@@ -156,7 +157,7 @@ given-found None events = refl
 pub said : (ss : List Slot) (es : List Event) (p : Parts) → InParts ss es p → VerdictOf ss es (rulingIn (p .table) (p .count) (p .size))
 said ss es p h = rw (h .is) (verdict-described ss es (h .session) (h .describes))
 
-pub judged : (table : List ℕ) (count size : ℕ) (events : List ℕ) (outcome : session.Outcome) (r : Judgement) → events ≡ numbersIn table size
+pub judged : (table : List ℕ) (count size : ℕ) (events : List ℕ) (outcome : run.Outcome) (r : Judgement) → events ≡ numbersIn table size
     → outcome ≡ asOutcome (foundAt count) → r ≡ judgementOf (outcomeIs outcome events)
     → (r ≡ judgementOf (record { refused = nothing; refusal = refusal 0 0; ruling = rulingIn table count size }))
     × ((ss : List Slot) (es : List Event) (p : Parts) → InParts ss es p → p .table ≡ table → p .count ≡ count → p .size ≡ size → VerdictOf ss es (rulingIn table count size))

@@ -16,10 +16,11 @@ use Rattle.trace.specs.Match.{Each, none, more}
 use Rattle.trace.proofs.Runs.{Among}
 use Rattle.trace.proofs.Numbers.{numbered-among}
 use Rattle.dependence.specs.Order.{HasMatch}
-use Rattle.session.specs.declared.Judged.{Judged}
-use Rattle.session.specs.declared.Outcome.{Outcome}
-use Rattle.session.specs.declared.Outcome.the-variants.{Match, None, PatternRefused, LogRefused}
-use Rattle.session.specs.Answers.{Refused, nothing, Given, outcomeIs, judgedIs}
+use Rattle.run.specs.declared.Judged.{Judged}
+use Rattle.run.specs.declared.Outcome.{Outcome}
+use Rattle.run.specs.declared.Outcome.the-variants.{Match, None, PatternRefused, LogRefused}
+use Rattle.session.specs.Answers.{Refused, nothing, Given}
+use Rattle.run.specs.Answers.{outcomeIs, judgedIs}
 use Rattle.session.specs.Meaning.{RunOf, pattern-refused, over-log, log-refused, judged}
 use Rattle.event.proofs.Tests.{by-test}
 use Rattle.listing_text.specs.Text.{slotLine, refusalLine, patternRefusalLine, noMatchLine, matchLine}

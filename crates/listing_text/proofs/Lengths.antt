@@ -11,8 +11,8 @@ use Rattle.event.specs.declared.Operation.the-variants.{Read, Write, Acquire, R
 use Rattle.event.proofs.Tests.{by-test}
 use Rattle.height.specs.declared.Metres.{Metres}
 use Rattle.height.specs.Rounding.{metresOf}
-use Rattle.session.specs.declared.Outcome.{Outcome}
-use Rattle.session.specs.declared.Outcome.the-variants.{Match, None, PatternRefused, LogRefused}
+use Rattle.run.specs.declared.Outcome.{Outcome}
+use Rattle.run.specs.declared.Outcome.the-variants.{Match, None, PatternRefused, LogRefused}
 use Rattle.log.specs.Number.{nthEvent}
 use Rattle.listing_text.specs.Text.{decimal, metresText, heightText, operationText, slotLine, refusalLine}
 use Rattle.listing_text.specs.Listing.{enough as room}

@@ -5,8 +5,8 @@ use mathlib.Core.List.{List, [], _∷_, _++_}
 use lib.Dec.{eqb, ltb}
 use lib.ListN.{set, replicate}
 use Rattle.log.specs.Number.{nthEvent}
-use Rattle.session.specs.declared.Outcome.{Outcome}
-use Rattle.session.specs.declared.Outcome.the-variants.{Match, None, PatternRefused, LogRefused}
+use Rattle.run.specs.declared.Outcome.{Outcome}
+use Rattle.run.specs.declared.Outcome.the-variants.{Match, None, PatternRefused, LogRefused}
 use Rattle.listing_text.specs.declared.Page.{Page}
 use Rattle.listing_text.specs.Listing.{enough as room}
 use Rattle.listing_text.specs.Text.{slotLine, refusalLine, patternRefusalLine, noMatchLine, matchLine}

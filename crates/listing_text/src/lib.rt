@@ -2,8 +2,8 @@
 use event::Event;
 use event::Operation;
 use height::Metres;
-use session::Judged;
-use session::Outcome;
+use run::Judged;
+use run::Outcome;
 use writer::Written;
 ghost use Prim.Native.Nat.{ℕ, _≤_};
 ghost use mathlib.Core.Path.{_≡_};
@@ -50,7 +50,7 @@ fn listing(pattern: &[u8], log: &[u8]) -> Page
     if LONGEST < log.len() {
         return p.text(b"too long\n");
     }
-    let judged = session::run(pattern, log);
+    let judged = run::run(pattern, log);
     verdict(p, judged, log)
 }
 

@@ -7,13 +7,13 @@ use plain::drawn;
 use session::Answer;
 use session::Found;
 use session::Opened;
-use session::Outcome;
+use run::Outcome;
 use session::Session;
 use session::Verdict;
 
 // Whether the run says what the search says, or refuses the log as reading it does.
 pub(crate) fn run_agrees(pattern: &[u8], log: &[u8], t: Truth, read: LogRead) -> bool {
-    let judged = session::run(pattern, log);
+    let judged = run::run(pattern, log);
     let outcome = judged.outcome;
     let numbers = judged.numbers;
     let l = t.leading;

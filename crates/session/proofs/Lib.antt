@@ -1,4 +1,3 @@
 pub mod Described
 pub mod Steps
-pub mod Running
 pub mod Demand

@@ -77,14 +77,14 @@ module _ (acting : List ℕ) (fit : List Bool) (size : ℕ) (k : Kept) (e : Even
       (λ i. record { state = q i; clocks = k .clocks; table = k .table; taken = k .taken + 1; count = k .count })
 
   -- without one, the event is offered to the table with its stamp
-  pub kept-searched : (stamp : Stamp) (clocks table : List ℕ) (found : Bool) (count : ℕ) → k .count ≡ 0 → stamp ≡ stampBy (k .clocks) e → clocks ≡ clocksAfter (k .clocks) e
-      → table ≡ offered (k .table) acting fit size (e .thread) stamp (k .taken + 1) → found ≡ foundIn table size → count ≡ cond found (k .taken + 1) 0
+  pub kept-searched : (stamp : Stamp) (clocks table : List ℕ) (count : ℕ) → k .count ≡ 0 → stamp ≡ stampBy (k .clocks) e → clocks ≡ clocksAfter (k .clocks) e
+      → table ≡ offered (k .table) acting fit size (e .thread) stamp (k .taken + 1) → count ≡ cond (foundIn table size) (k .taken + 1) 0
       → _≡_ {A = Kept} (record { state = state; clocks = clocks; table = table; taken = k .taken + 1; count = count }) (keptAdvanced acting fit size k e)
   unfolding keptAdvanced
-  kept-searched stamp clocks table found count h st cl tb fo co =
+  kept-searched stamp clocks table count h st cl tb co =
       let t : table ≡ tableAfter acting fit size k e = tb ∙ ap (λ (x : Stamp). offered (k .table) acting fit size (e .thread) x (k .taken + 1)) st in
       let c : count ≡ cond (foundIn (tableAfter acting fit size k e) size) (k .taken + 1) 0 =
-      co ∙ ap (λ (b : Bool). cond b (k .taken + 1) 0) (fo ∙ ap (λ (x : List ℕ). foundIn x size) t) in
+      co ∙ ap (λ (x : List ℕ). cond (foundIn x size) (k .taken + 1) 0) t in
       rw (eq-eqb (k .count) 0 h)
       (λ i. record { state = q i; clocks = cl i; table = t i; taken = k .taken + 1; count = c i })
 
@@ -93,7 +93,7 @@ module _ (acting : List ℕ) (fit : List Bool) (size : ℕ) (k : Kept) (e : Even
       → ((j : ℕ) → j < slots → getD fit j false ≡ false) → foundIn (k .table) size ≡ false
       → _≡_ {A = Kept} (record { state = state; clocks = clocks; table = k .table; taken = k .taken + 1; count = k .count }) (keptAdvanced acting fit size k e)
   kept-idle stamp clocks h st cl unfit none =
-      kept-searched stamp clocks (k .table) false (k .count) h st cl (sym (unfit-leaves acting fit size (e .thread) stamp (k .taken + 1) (k .table) unfit)) (sym none) h
+      kept-searched stamp clocks (k .table) (k .count) h st cl (sym (unfit-leaves acting fit size (e .thread) stamp (k .taken + 1) (k .table) unfit)) (rw none h)
 
 pub kept-taken : (acting : List ℕ) (fit : List Bool) (size : ℕ) (k after : Kept) (e : Event) → refusalBy (k .state) (k .taken) e ≡ 0
     → after ≡ keptAdvanced acting fit size k e → after ≡ keptAfter acting fit size k e

@@ -9,9 +9,6 @@ use Rattle.session.specs.declared.Answer.the-variants as answer
 use Rattle.session.specs.declared.Found.{Found}
 use Rattle.session.specs.declared.Found.the-variants as found
 use Rattle.session.specs.declared.Verdict.{Verdict}
-use Rattle.session.specs.declared.Outcome.{Outcome}
-use Rattle.session.specs.declared.Outcome.the-variants as outcome
-use Rattle.session.specs.declared.Judged.{Judged}
 
 -- "A refusal returns its number and the offset of the first byte of the command concerned"; number 0: nothing is refused
 pub record Refusal : Type 0 where
@@ -53,14 +50,3 @@ pub record Given : Type 0 where
   pub refused : Refused
   pub refusal : Refusal
   pub ruling : Ruling
-
-abbrev pub outcomeIs : Outcome → List ℕ → Given
-outcomeIs (outcome.Match n) events = record { refused = nothing; refusal = refusal 0 0; ruling = record { matches = true; count = n; events = events } }
-outcomeIs outcome.None events = record { refused = nothing; refusal = refusal 0 0; ruling = record { matches = false; count = 0; events = events } }
-outcomeIs (outcome.PatternRefused k o) events =
-    record { refused = pattern; refusal = refusal k o; ruling = record { matches = false; count = 0; events = events } }
-outcomeIs (outcome.LogRefused k o) events =
-    record { refused = log; refusal = refusal k o; ruling = record { matches = false; count = 0; events = events } }
-
-abbrev pub judgedIs : Judged → Given
-judgedIs j = outcomeIs (j .outcome) (j .numbers)

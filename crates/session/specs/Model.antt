@@ -21,9 +21,6 @@ use Rattle.session.specs.declared.Handed.{Handed}
 use Rattle.session.specs.declared.Found.{Found}
 use Rattle.session.specs.declared.Found.the-variants.{Match, None}
 use Rattle.session.specs.declared.Verdict.{Verdict}
-use Rattle.session.specs.declared.Outcome.{Outcome}
-use Rattle.session.specs.declared.Outcome.the-variants as outcome
-use Rattle.session.specs.declared.Judged.{Judged}
 
 -- ---- opening
 
@@ -108,11 +105,3 @@ foundAt n = cond (eqb n 0) None (Match n)
 -- what a session has found: the count, and the numbers in the table
 abbrev pub verdictOf : Session → Verdict
 verdictOf s = record { found = foundAt (s .count); numbers = numbersIn (s .table) (s .pattern .size) }
-
--- a verdict as a run gives it
-abbrev pub asOutcome : Found → Outcome
-asOutcome (Match n) = outcome.Match n
-asOutcome None = outcome.None
-
-abbrev pub judgedBy : Verdict → Judged
-judgedBy v = record { outcome = asOutcome (v .found); numbers = v .numbers }

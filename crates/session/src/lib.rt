@@ -1,21 +1,16 @@
-// Sessions that take events one by one, and runs over a whole log: whether some order of the events holds the pattern.
-use command::Decoded;
+// Sessions that take events one by one: whether some order of the events taken holds the pattern.
 use event::Event;
 use log::Pattern;
 use log::PatternAnswer;
 ghost use mathlib.Core.Path.{_≡_};
-ghost use mathlib.Core.Bool.{cond};
 ghost use mathlib.Core.List.{List, reverse};
-ghost use lib.ListN.{replicate};
 ghost use Rattle.event.specs.declared.Event.{Event};
 ghost use Rattle.event.specs.declared.Slot.{Slot};
-ghost use Rattle.event.specs.Limits.{slots as slotLimit};
 ghost use Rattle.rules.specs.Accepted.{refusalAfter};
 ghost use Rattle.rules.specs.State.{refusalBy};
-ghost use Rattle.log.specs.Whole.{GoodPattern, patternOf};
-ghost use Rattle.session.specs.Answers.{refusal, answerIs, verdictIs, judgedIs};
-ghost use Rattle.session.specs.Model.{orLone, freshOn, keptAfter, handed, answerBy, foundAt, verdictOf, judgedBy};
-ghost use Rattle.session.specs.Meaning.{OpenedOn, Describes, VerdictOf, takenBy, RunOn, RunOf};
+ghost use Rattle.session.specs.Answers.{refusal, answerIs, verdictIs};
+ghost use Rattle.session.specs.Model.{orLone, freshOn, keptAfter, handed, answerBy, foundAt, verdictOf};
+ghost use Rattle.session.specs.Meaning.{OpenedOn, Describes, VerdictOf, takenBy};
 
 // The pattern, what is kept of the events taken, how many they are, and the count of the match, 0 without one.
 pub struct Session {
@@ -51,18 +46,6 @@ pub enum Found {
 // Whether there is a match, and the event number of each slot; 0 beyond the pattern and without a match.
 pub struct Verdict {
     pub found: Found,
-    pub numbers: [u16; event::SLOTS],
-}
-
-pub enum Outcome {
-    Match { count: usize },
-    None,
-    PatternRefused { number: u8, offset: usize },
-    LogRefused { number: u8, offset: usize },
-}
-
-pub struct Judged {
-    pub outcome: Outcome,
     pub numbers: [u16; event::SLOTS],
 }
 
@@ -164,8 +147,7 @@ pub fn hand(
     }
     let stamp = clock::advance(clocks, e);
     table::offer(table, acting, fit, size, e.thread, stamp, n);
-    let found = table::found(table, size);
-    *count = count_if(found, n);
+    *count = table::count_at(table, size, n);
     0
 }
 
@@ -184,90 +166,6 @@ fn answer_by(number: u8) -> Answer
     Answer::Refused { number, offset: 0 }
 }
 
-// Judges a whole log by a pattern.
-pub fn run(pattern: &[u8], log: &[u8]) -> Judged
-    ensures { λ r. ⌜ RunOf (now (pattern .entry)) (now (log .entry)) (judgedIs r) ⌝ }
-{
-    let read = log::read_pattern(pattern);
-    let answer = read.answer;
-    let p = read.pattern;
-    match answer {
-        PatternAnswer::PatternRefused { number, offset } => Judged {
-            outcome: Outcome::PatternRefused { number, offset },
-            numbers: [0; event::SLOTS],
-        },
-        PatternAnswer::Accepted { slots: _ } => run_on(p, log),
-    }
-}
-
-// Keeps one session in place for the whole log, and lends its parts.
-fn run_on(p: Pattern, log: &[u8]) -> Judged
-    ensures { λ r. ⌜ ((ss : List Slot) → GoodPattern ss → p ≡ patternOf ss → RunOn ss (now (log .entry)) (judgedIs r)) ⌝ }
-{
-    let mut z = fresh(p);
-    let slots = p.slots;
-    let size = p.size;
-    let acting = event::threads_of(slots);
-    let keys = table::keys(slots);
-    let mut at: usize = 0;
-    loop {
-        // What `log::step` does, in place: a call of it for each event would make a run half as long again.
-        let read = command::decode(log, at, true);
-        let Decoded::Command { event, next } = read else {
-            let Decoded::Refused { number, offset } = read else {
-                return outcome_of(z.verdict());
-            };
-            return log_refused(number, offset);
-        };
-        let taken = z.taken as usize;
-        let k = rules::admit(&mut z.state, taken, event);
-        if k != 0 {
-            return log_refused(k, at);
-        }
-        let n = (taken + 1) as u16;
-        z.taken = n;
-        let here = at;
-        at = next;
-        if z.count != 0 {
-            continue;
-        }
-        let stamp = clock::advance(&mut z.clocks, event);
-        if !table::wants(keys, command::key_at(log, here)) {
-            continue;
-        }
-        let fit = event::fitting(slots, event);
-        table::offer(&mut z.table, acting, fit, size, event.thread, stamp, n);
-        let matched = table::found(&z.table, size);
-        z.count = count_if(matched, n);
-    }
-}
-
-fn log_refused(number: u8, offset: usize) -> Judged
-    ensures { λ r. ⌜ r ≡ record { outcome = Outcome.LogRefused number offset; numbers = replicate slotLimit 0 } ⌝ }
-{
-    Judged {
-        outcome: Outcome::LogRefused { number, offset },
-        numbers: [0; event::SLOTS],
-    }
-}
-
-fn outcome_of(v: Verdict) -> Judged
-    ensures { λ r. ⌜ r ≡ judgedBy v ⌝ }
-{
-    let found = v.found;
-    let numbers = v.numbers;
-    match found {
-        Found::Match { count } => Judged {
-            outcome: Outcome::Match { count },
-            numbers,
-        },
-        Found::None => Judged {
-            outcome: Outcome::None,
-            numbers,
-        },
-    }
-}
-
 fn found_at(count: u16) -> Found
     ensures { λ r. ⌜ r ≡ foundAt count ⌝ }
 {
@@ -275,12 +173,6 @@ fn found_at(count: u16) -> Found
         return Found::None;
     }
     Found::Match { count: wide(count) }
-}
-
-fn count_if(found: bool, n: u16) -> u16
-    ensures { λ r. ⌜ r ≡ cond found n 0 ⌝ }
-{
-    if found { n } else { 0 }
 }
 
 // The pattern, or the lone slot where there is none.
@@ -295,7 +187,7 @@ fn or_lone(p: Pattern) -> Pattern
 }
 
 // The session on a pattern, with no event taken.
-fn fresh(p: Pattern) -> Session
+pub fn fresh(p: Pattern) -> Session
     ensures { λ r. ⌜ r ≡ freshOn p ⌝ }
 {
     let state = rules::fresh();

@@ -3,7 +3,7 @@ use clock::Stamp;
 use event::Slot;
 ghost use mathlib.Core.Path.{_≡_};
 ghost use mathlib.Core.Logic.{_↔_};
-ghost use mathlib.Core.Bool.{true, false};
+ghost use mathlib.Core.Bool.{true, false, cond};
 ghost use mathlib.Core.List.{List, [], _∷_, _++_};
 ghost use Prim.Native.Nat.{ℕ, _+_, _-_, _*_, _^_, _%_, _≤_, _<_};
 ghost use lib.ListN.{length, getD};
@@ -271,6 +271,13 @@ pub fn found(table: &[u16; TABLE], size: usize) -> bool
     }
     let last = last_row(size);
     table[last + HELD] != 0
+}
+
+// The count once event number n has been offered: n where all slots have a row, else 0.
+pub fn count_at(table: &[u16; TABLE], size: usize, n: u16) -> u16
+    ensures { λ r. ⌜ r ≡ cond (foundIn (now (table .entry)) size) n 0 ⌝ }
+{
+    if found(table, size) { n } else { 0 }
 }
 
 // Where the row of all slots starts.

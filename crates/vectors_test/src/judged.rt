@@ -4,7 +4,7 @@ use event::Event;
 use order::Order;
 use session::Answer;
 use session::Found;
-use session::Outcome;
+use run::Outcome;
 use session::Session;
 use session::Verdict;
 
@@ -32,7 +32,7 @@ pub(crate) fn both(log: &[u8], pattern: &[u8]) {
 }
 
 pub(crate) fn run(log: &[u8], pattern: &[u8]) {
-    let judged = session::run(pattern, log);
+    let judged = run::run(pattern, log);
     let outcome = judged.outcome;
     let numbers = judged.numbers;
     show_outcome(outcome);

@@ -40,20 +40,17 @@ advance-requires c κs = search needs
 offer-requires : tie.Need-offer-requires
 offer-requires c κs = search needs
 
-found-requires : tie.Need-found-requires
-found-requires c κs = search needs
-
-count-if-requires : tie.Need-count-if-requires
-count-if-requires c κs = search needs
+count-at-requires : tie.Need-count-at-requires
+count-at-requires c κs = search needs
 
 returns-3 : tie.Need-returns-3
 returns-3 c =
-    let a = c .before .before .before .before .before .before .before .before .before .before .before .before .before .args in
+    let a = c .before .before .before .before .before .before .before .before .before .before .before .before .args in
     let k : Kept = record { state = a .state .now; clocks = a .clocks .now; table = a .table .now; taken = a .taken .now; count = a .count .now } in
-    let r = c .before .before .before .before .before .before .before .before .before .before .admit .ensures in
-    let z = sym (r .0) ∙ c .before .before .before .before .before .before .before .before .before .if1 .left in
-    let clocked = c .before .before .before .before .before .advance .ensures in
-    (sym z, kept-taken _ _ _ k _ (a .e) z (kept-searched _ _ _ k (a .e) _ (r .1 .0) _ _ _ _ _ (c .before .before .before .before .before .before .before .if2 .left) (clocked .0) (clocked .1 .0) (c .before .before .before .offer .ensures .0) (c .before .found .ensures .0) (c .count-if .ensures)))
+    let r = c .before .before .before .before .before .before .before .before .before .admit .ensures in
+    let z = sym (r .0) ∙ c .before .before .before .before .before .before .before .before .if1 .left in
+    let clocked = c .before .before .before .before .advance .ensures in
+    (sym z, kept-taken _ _ _ k _ (a .e) z (kept-searched _ _ _ k (a .e) _ (r .1 .0) _ _ _ _ (c .before .before .before .before .before .before .if2 .left) (clocked .0) (clocked .1 .0) (c .before .before .offer .ensures .0) (c .count-at .ensures)))
 
 pub hand-spec : {M : Type 1} → statement M
 hand-spec =
@@ -66,6 +63,5 @@ hand-spec =
     returns-2
     advance-requires
     offer-requires
-    found-requires
-    count-if-requires
+    count-at-requires
     returns-3)

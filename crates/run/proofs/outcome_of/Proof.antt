@@ -1,6 +1,6 @@
 use borrow.Author.Needs.{needs}
-use Rattle.session.proofs.outcome_of.Statement.{statement}
-use Rattle.session.proofs.outcome_of.Tie as tie
+use Rattle.run.proofs.outcome_of.Statement.{statement}
+use Rattle.run.proofs.outcome_of.Tie as tie
 
 enum-known-found : tie.Need-enum-known-found
 enum-known-found c = search needs

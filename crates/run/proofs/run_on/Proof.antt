@@ -12,11 +12,11 @@ use Rattle.rules.specs.State.{refusalBy, stateAfter}
 use Rattle.log.proofs.Steps.{History, step-ends, step-breaks, step-fails, step-passes}
 use Rattle.table.specs.Keys.{KeysOf}
 use Rattle.table.specs.Table.{offered, foundIn}
 use Rattle.session.specs.declared.Session.{Session}
 use Rattle.session.specs.Model.{keptOf, advanced}
 use Rattle.session.proofs.Described.{no-row}
 use Rattle.session.proofs.Steps.{room, kept-matched, kept-searched, kept-idle, advanced-is}
-use Rattle.session.proofs.Running.{Running, started, ended, broke, goes-on}
+use Rattle.run.proofs.Running.{Running, started, ended, broke, goes-on}
 use lib.ListN.{length, getD}
 use mathlib.Core.List.{List, [], _∷_}
 use mathlib.Core.Bool.{Bool, true, false}
@@ -25,8 +25,8 @@ use native.Mathlib.Omega.{arith}
 use Prim.Native.Nat.{ℕ, zero, suc, _+_, _-_, _≤_, _<_}
 use borrow.Author.Needs.{needs}
 use borrow.Author.Tests.{not-true}
-use Rattle.session.proofs.run_on.Statement.{statement}
-use Rattle.session.proofs.run_on.Tie as tie
+use Rattle.run.proofs.run_on.Statement.{statement}
+use Rattle.run.proofs.run_on.Tie as tie
 
 record Kept (log : List ℕ) (p₀ z : Session) (slots : List Slot) (size : ℕ) (acting keys : List ℕ) (at : ℕ) : Type 0 where
   few : z .taken ≤ events
@@ -206,26 +206,23 @@ fitting-requires c κs = search needs
 offer-requires : tie.Need-offer-requires Inv-loop μ-loop
 offer-requires c κs = search needs
 
-found-requires : tie.Need-found-requires Inv-loop μ-loop
-found-requires c κs = search needs
-
-count-if-requires : tie.Need-count-if-requires Inv-loop μ-loop
-count-if-requires c κs = search needs
+count-at-requires : tie.Need-count-at-requires Inv-loop μ-loop
+count-at-requires c κs = search needs
 
 loop-less-3 : tie.Need-loop-less-3 Inv-loop μ-loop
-loop-less-3 c = less (c .before .before .before .before .before .before .before .before .before .before .before .before .before)
+loop-less-3 c = less (c .before .before .before .before .before .before .before .before .before .before .before .before )
 
 loop-again-3 : tie.Need-loop-again-3 Inv-loop μ-loop
 loop-again-3 c =
-    let t = c .before .before .before .before .before .before .before .before .before .before .before .before .before in
+    let t = c .before .before .before .before .before .before .before .before .before .before .before .before in
     let l = t .before .before .before .before .before .before .before .loop in
     let e : Event = t .before .before .before .before .read .given .0 .0 in
-    let clocked = c .before .before .before .before .before .before .before .before .before .before .advance .ensures in
-    let offer = c .before .before .before .before .offer .ensures .0 in
+    let clocked = c .before .before .before .before .before .before .before .before .before .advance .ensures in
+    let offer = c .before .before .before .offer .ensures .0 in
     again t _
     (λ ss g r. advanced-is (l .z) e _
-    (kept-searched _ _ _ (keptOf (l .z)) e _ (t .before .admit .ensures .1 .0) _ _ _ _ _ (c .before .before .before .before .before .before .before .before .before .before .before .before .if2 .left) (clocked .0) (clocked .1 .0)
-    (rw (c .before .before .before .before .before .before .fitting .ensures, l .inv .acting-is, l .inv .slots-are, l .inv .size-is) at offer) (rw (l .inv .size-is) at (c .before .found .ensures .0)) (c .count-if .ensures)))
+    (kept-searched _ _ _ (keptOf (l .z)) e _ (t .before .admit .ensures .1 .0) _ _ _ _ (c .before .before .before .before .before .before .before .before .before .before .before .if2 .left) (clocked .0) (clocked .1 .0)
+    (rw (c .before .before .before .before .before .fitting .ensures, l .inv .acting-is, l .inv .slots-are, l .inv .size-is) at offer) (rw (l .inv .size-is) at (c .count-at .ensures))))
     refl refl refl
 
 pub run-on-spec : {M : Type 1} → statement M
@@ -261,7 +258,6 @@ run-on-spec =
     loop-again-2
     fitting-requires
     offer-requires
-    found-requires
-    count-if-requires
+    count-at-requires
     loop-less-3
     loop-again-3)

@@ -15,16 +15,17 @@ use Rattle.log.specs.Whole.{GoodPattern, patternOf, Whole, accepted, refused, O
 use Rattle.log.proofs.PatternRoundTrip.{pattern-iff}
 use Rattle.log.proofs.Steps.{History}
 use Rattle.log.proofs.LogWalk as walk
 use Rattle.session.specs.declared.Session.{Session}
 use Rattle.session.specs.declared.Found.{Found}
 use Rattle.session.specs.declared.Found.the-variants.{Match, None}
 use Rattle.session.specs.declared.Verdict.{Verdict}
-use Rattle.session.specs.declared.Judged.{Judged}
-use Rattle.session.specs.declared.Outcome.the-variants.{LogRefused, PatternRefused}
-use Rattle.session.specs.Answers.{judgedIs, verdictIs, nothing as nobody, refusal, Given}
-use Rattle.session.specs.Model.{freshOn, advanced, verdictOf, judgedBy}
+use Rattle.run.specs.declared.Judged.{Judged}
+use Rattle.run.specs.declared.Outcome.the-variants.{LogRefused, PatternRefused}
+use Rattle.session.specs.Answers.{verdictIs, nothing as nobody, refusal, Given}
+use Rattle.session.specs.Model.{freshOn, advanced, verdictOf}
+use Rattle.run.specs.Answers.{judgedIs, judgedBy}
 use Rattle.session.specs.Meaning.{Describes, RunOn, log-refused, judged, RunOf, pattern-refused, over-log}
 use Rattle.session.proofs.Described.{fresh-described, advanced-described, verdict-described}
 
 pub record Running (ss : List Slot) (bytes : List ℕ) (z : Session) (at : ℕ) : Type 0 where
   pub past : List Event

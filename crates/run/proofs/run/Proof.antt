@@ -1,10 +1,10 @@
 use mathlib.Core.Path.{sym, ap, _∙_}
 use Rattle.command.specs.Bytes.{Bytes}
 use Rattle.log.specs.Whole.{patternAnswerIs}
-use Rattle.session.proofs.Running.{refused-pattern, accepted-pattern}
+use Rattle.run.proofs.Running.{refused-pattern, accepted-pattern}
 use borrow.Author.Needs.{needs}
-use Rattle.session.proofs.run.Statement.{statement}
-use Rattle.session.proofs.run.Tie as tie
+use Rattle.run.proofs.run.Statement.{statement}
+use Rattle.run.proofs.run.Tie as tie
 
 read-pattern-requires : tie.Need-read-pattern-requires
 read-pattern-requires c κs = search needs
