@@ -16,7 +16,7 @@ use Rattle.event.proofs.Tests.{by-test}
 use Rattle.rules.specs.Accepted.{refusalAfter}
 use Rattle.rules.specs.State.{refusalBy}
 use Rattle.rules.proofs.StateLaws.{taken-in-range}
-use Rattle.log.specs.Whole.{InLimits, Outcome, passed, refused, patternAnswerIs, patternOf, readPattern}
+use Rattle.log.specs.Whole.{InLimits, Passing, passed, refused, patternAnswerIs, patternOf, readPattern}
 use Rattle.command.specs.Bytes.{Bytes}
 use Rattle.session.specs.declared.Session.{Session}
 use Rattle.session.specs.declared.Opened.{Opened}
@@ -127,7 +127,7 @@ module _ (p : Parts) (t b o : ℕ) (h : ℤ) where
 
 -- ---- an opening
 
-in-opening : (x : Outcome) (p : Parts) → openingFrom x p .session ≡ p
+in-opening : (x : Passing) (p : Parts) → openingFrom x p .session ≡ p
 in-opening (passed n) p = refl
 in-opening (refused k o) p = refl
 

@@ -38,7 +38,7 @@ pub record RunNumbers (pattern log : List ℕ) (r : Judgement) : Type 0 where
   pub numbers : r ≡ judgementOf given
 
 -- The kinds: 0 no, 1 yes, 3 the log is refused, 4 the query is refused.
-abbrev pub orderingOf : order.Outcome → Ordering
+abbrev pub orderingOf : order.OrderAnswer → Ordering
 orderingOf no = record { kind = 0; number = 0; offset = 0 }
 orderingOf yes = record { kind = 1; number = 0; offset = 0 }
 orderingOf (log-refused k o) = record { kind = 3; number = k; offset = o }
@@ -46,6 +46,6 @@ orderingOf (query-refused k o) = record { kind = 4; number = k; offset = o }
 
 -- "An order query takes a log and two event numbers and answers yes or no.": its outcome, in numbers
 pub record OrderNumbers (log : List ℕ) (first second : ℕ) (r : Ordering) : Type 0 where
-  pub outcome : order.Outcome
+  pub outcome : order.OrderAnswer
   pub answers : Answers log first second outcome
   pub numbers : r ≡ orderingOf outcome

@@ -13,7 +13,7 @@ use Rattle.event.specs.Keys.{slotNumber}
 use Rattle.rules.specs.Accepted.{refusalAfter}
 use Rattle.rules.specs.State.{refusalBy}
 use Rattle.command.specs.Reading.{operationOf}
-use Rattle.log.specs.Whole.{Outcome, passed, refused, outcomeOf, patternOf, readPattern}
+use Rattle.log.specs.Whole.{Passing, passed, refused, outcomeOf, patternOf, readPattern}
 use Rattle.table.specs.Table.{numbersIn}
 use Rattle.session.specs.declared.Session.{Session}
 use Rattle.session.specs.Answers.{Ruling, foundIs}
@@ -33,7 +33,7 @@ pub record InParts (ss : List Slot) (es : List Event) (p : Parts) : Type 0 where
 -- ---- opening
 
 -- "A refusal returns its number and the offset .., other fields 0."
-abbrev pub openingFrom : Outcome → Parts → Opening
+abbrev pub openingFrom : Passing → Parts → Opening
 openingFrom (passed n) p = record { number = 0; offset = 0; slots = n; session = p }
 openingFrom (refused k o) p = record { number = k; offset = o; slots = 0; session = p }
 

@@ -19,7 +19,7 @@ use Rattle.trace.proofs.Channels.{clock}
 use Rattle.dependence.specs.Dependence.{dependent}
 use Rattle.dependence.specs.Order.{threadOf}
 use Rattle.dependence.specs.Channels.{Channel, tells}
-use Rattle.clock.specs.Holds.{Told, IsClock}
+use Rattle.clock.specs.Arrivals.{Told, IsClock}
 
 -- a count of the numbers 1 to n is at most n
 tally-le : (p : ℕ → Bool) (n : ℕ) → tally p n ≤ n

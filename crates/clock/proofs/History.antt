@@ -29,7 +29,7 @@ use Rattle.dependence.proofs.ByChannels.{by-channels}
 use Rattle.clock.specs.declared.Stamp.{Stamp}
 use Rattle.clock.specs.Rows.{size, numberOf, rowOf, Known, beside}
 use Rattle.clock.specs.Clocks.{highestCount, up, told, rowsOf, stampBy, clocksAfter}
-use Rattle.clock.specs.Holds.{StampOf, Holds, Arrived}
+use Rattle.clock.specs.Arrivals.{StampOf, ClocksOf, Arrived}
 use Rattle.clock.proofs.RowLaws.{row-fits, all-known, AllKnown}
 use Rattle.clock.proofs.ClockLaws.{stamp-in, clocks-in}
 use Rattle.clock.proofs.Entries.{raised-length, highestOf, heard-entry, told-entry}
@@ -37,7 +37,7 @@ use Rattle.clock.proofs.Channels.{heard-of, told-of}
 use Rattle.clock.proofs.Highest.{kept, kept-le, kept-is, kept-unique}
 
 -- no events, and clocks of zeros
-pub nothing-yet : Holds [] (replicate size 0)
+pub nothing-yet : ClocksOf [] (replicate size 0)
 nothing-yet =
     record {
       whole = length-replicate {A = ℕ} size 0;
@@ -48,7 +48,7 @@ nothing-yet =
           rw z (record { reached = inl refl; highest = λ n d. absurd (let u = numbered-among (d .2) in omega arith) });
     }
 
-module _ (log : List Event) (clocks : List ℕ) (e : Event) (h : Holds log clocks) (room : length log < events)
+module _ (log : List Event) (clocks : List ℕ) (e : Event) (h : ClocksOf log clocks) (room : length log < events)
     (within : rangeRefusal (slotOf e) ≡ 0) where
   abbrev longer : List Event
   longer = log ++ (e ∷ [])
@@ -113,7 +113,7 @@ module _ (log : List Event) (clocks : List ℕ) (e : Event) (h : Holds log clock
       fits : (d : Channel) → Known d → rowOf d + threads ≤ length clocks
       fits d u = rw (h .whole) (row-fits d u)
 
-  still-held : Holds longer (clocksAfter clocks e)
+  still-held : ClocksOf longer (clocksAfter clocks e)
   unfolding told
   still-held =
       record {
@@ -125,6 +125,6 @@ module _ (log : List Event) (clocks : List ℕ) (e : Event) (h : Holds log clock
 pub arrived : (clocks : List ℕ) (e : Event) (s : Stamp) (after : List ℕ) → s ≡ stampBy clocks e → after ≡ clocksAfter clocks e
     → (s ≡ stampBy clocks e)
     × ((after ≡ clocksAfter clocks e)
-    × ((log : List Event) → Holds log clocks → length log < events → rangeRefusal (slotOf e) ≡ 0 → Arrived log e s after))
+    × ((log : List Event) → ClocksOf log clocks → length log < events → rangeRefusal (slotOf e) ≡ 0 → Arrived log e s after))
 arrived clocks e s after p q =
     (p, (q, λ log h room within. rw (p, q) (record { stamp = stamp-given log clocks e h room within; holds = still-held log clocks e h room within })))

@@ -17,7 +17,7 @@ use Rattle.dependence.specs.Order.{ComesBefore, threadOf}
 use Rattle.dependence.proofs.Dependent.{one-thread}
 use Rattle.clock.specs.declared.Stamp.{Stamp}
 use Rattle.clock.specs.Clocks.{comesBefore}
-use Rattle.clock.specs.Holds.{StampOf}
+use Rattle.clock.specs.Arrivals.{StampOf}
 
 -- the stamp of an event stays its stamp as others arrive
 pub stamp-stays : (log later : List Event) (j : ℕ) (e : Event) (s : Stamp) → Numbered log j e → StampOf log j s → StampOf (log ++ later) j s

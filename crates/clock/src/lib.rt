@@ -15,7 +15,7 @@ ghost use Rattle.event.specs.Effects.{touches};
 ghost use Rattle.dependence.specs.Channels.{thread, readsOf, writesOf, lockOf};
 ghost use Rattle.clock.specs.Rows.{size, rowOf, besideOf, rowsFor};
 ghost use Rattle.clock.specs.Clocks.{up, tickedAt, heardFrom, toldTo, heard, stampBy, clocksAfter, comesBefore};
-ghost use Rattle.clock.specs.Holds.{Holds, Arrived};
+ghost use Rattle.clock.specs.Arrivals.{ClocksOf, Arrived};
 
 // A row has an entry for each thread. There is a row for each thread, for the reads and for the writes of each variable, and for each lock.
 pub const THREADS: usize = event::THREADS as usize;
@@ -46,7 +46,7 @@ struct Rows {
 // The clocks of no events.
 pub fn fresh() -> [u16; CLOCKS]
     ensures zeros { λ r. ⌜ r ≡ replicate size 0 ⌝ }
-    ensures history { λ r. ⌜ Holds [] r ⌝ }
+    ensures history { λ r. ⌜ ClocksOf [] r ⌝ }
 {
     [0; CLOCKS]
 }
@@ -55,7 +55,7 @@ pub fn fresh() -> [u16; CLOCKS]
 pub fn advance(clocks: &mut [u16; CLOCKS], e: Event) -> Stamp
     ensures stamp { λ r. ⌜ r ≡ stampBy (now (clocks .entry)) e ⌝ }
     ensures after { λ r. ⌜ now (clocks .exit) ≡ clocksAfter (now (clocks .entry)) e ⌝ }
-    ensures history { λ r. ⌜ ((log : List Event) → Holds log (now (clocks .entry)) → length log < events → rangeRefusal (slotOf e) ≡ 0 → Arrived log e r (now (clocks .exit))) ⌝ }
+    ensures history { λ r. ⌜ ((log : List Event) → ClocksOf log (now (clocks .entry)) → length log < events → rangeRefusal (slotOf e) ≡ 0 → Arrived log e r (now (clocks .exit))) ⌝ }
 {
     let k = event::range(event::slot_of(e));
     if k != 0 {

@@ -21,7 +21,7 @@ use Rattle.dependence.specs.Order.{ComesBefore, IsStamp, threadOf}
 use Rattle.dependence.proofs.Dependent.{one-thread}
 use Rattle.clock.specs.declared.Stamp.{Stamp}
 use Rattle.clock.specs.Clocks.{comesBefore}
-use Rattle.clock.specs.Holds.{StampOf, Holds, Arrived}
+use Rattle.clock.specs.Arrivals.{StampOf, ClocksOf, Arrived}
 use Rattle.log.specs.Whole.{readLog, accepted}
 use Rattle.order.specs.declared.Watch.{Watch}
 use Rattle.order.specs.Query.{yes, no, query-refused, IsNumber, Answers, no-number, before, not-before}
@@ -220,7 +220,7 @@ module _ (bytes : List ℕ) (es : List Event) (i j : ℕ) (w : Watch) (h : Watch
 -- one event more: the clocks hold it, and it is watched
 pub next : (past : List Event) (i j taken : ℕ) (w : Watch) (e : Event) (s : Stamp) (clocks : List ℕ) → taken ≡ length past → e .thread < threads
     → Watched (reverse past) i j w → Arrived (reverse past) e s clocks
-    → Holds (reverse (e ∷ past)) clocks × Watched (reverse (e ∷ past)) i j (seen w (taken + 1) (e .thread) s)
+    → ClocksOf (reverse (e ∷ past)) clocks × Watched (reverse (e ∷ past)) i j (seen w (taken + 1) (e .thread) s)
 next past i j taken w e s clocks c low h a =
     let n : taken ≡ length (reverse past) = c ∙ sym (length-reverse past) in
     rw (reverse-cons e past, n) (a .holds, passes (reverse past) i j w h e s low (a .stamp))

@@ -10,11 +10,11 @@ use Rattle.order.specs.declared.Order.{Order}
 use Rattle.order.specs.declared.Order.the-variants as case
 
 -- the outcome: yes, no, a refusal of the log, or one of the query; each refusal with its number and offset
-pub data Outcome : Type 0 where
-  yes no : Outcome
-  log-refused query-refused : ℕ → ℕ → Outcome
+pub data OrderAnswer : Type 0 where
+  yes no : OrderAnswer
+  log-refused query-refused : ℕ → ℕ → OrderAnswer
 
-abbrev pub orderIs : Order → Outcome
+abbrev pub orderIs : Order → OrderAnswer
 orderIs case.Yes = yes
 orderIs case.No = no
 orderIs (case.LogRefused k o) = log-refused k o
@@ -26,7 +26,7 @@ IsNumber es i = (0 < i) × (i ≤ length es)
 
 -- what is answered for a log's bytes and two event numbers: the log's refusal; then
 -- "16 | after the log passes: an event number of 0 or above its count; offset 0"; then whether the first event comes before the second or is it
-pub data Answers (bytes : List ℕ) (i j : ℕ) : Outcome → Type 0 where
+pub data Answers (bytes : List ℕ) (i j : ℕ) : OrderAnswer → Type 0 where
   refused-log : {k o : ℕ} → readLog bytes ≡ refused k o → Answers bytes i j (log-refused k o)
   no-number : {es : List Event} → readLog bytes ≡ accepted es → ¬ (IsNumber es i × IsNumber es j) → Answers bytes i j (query-refused 16 0)
   before : {es : List Event} → readLog bytes ≡ accepted es → IsNumber es i → IsNumber es j → ComesBefore es i j → Answers bytes i j yes

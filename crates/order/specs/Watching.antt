@@ -7,7 +7,7 @@ use Rattle.event.specs.Limits.{threads}
 use Rattle.clock.specs.declared.Stamp.{Stamp}
 use Rattle.clock.specs.Clocks.{comesBefore}
 use Rattle.order.specs.declared.Watch.{Watch}
-use Rattle.order.specs.Query.{Outcome, yes, no, query-refused}
+use Rattle.order.specs.Query.{OrderAnswer, yes, no, query-refused}
 
 -- the count of the thread's own events in a stamp
 abbrev pub ownCount : ℕ → Stamp → ℕ
@@ -32,7 +32,7 @@ abbrev pub seen : Watch → ℕ → ℕ → Stamp → Watch
 seen w n t s = judged (met w n t s) n s
 
 -- the answer at the end of a log of n events
-abbrev pub answered : Watch → ℕ → Outcome
+abbrev pub answered : Watch → ℕ → OrderAnswer
 answered w n =
     cond (eqb (w .first) 0) (query-refused 16 0)
     (cond (eqb (w .second) 0) (query-refused 16 0)

@@ -11,7 +11,7 @@ use Rattle.rules.proofs.StateLaws.{nothing-yet}
 use Rattle.command.specs.Bytes.{Bytes}
 use Rattle.command.specs.Reading.{Reading, command, closed, refused as refusedAt}
 use Rattle.log.specs.declared.Pattern.{Pattern}
-use Rattle.log.specs.Whole.{GoodPattern, patternOf, Whole, accepted, refused, Outcome, passed, outcomeOf, patternFrom, readPattern}
+use Rattle.log.specs.Whole.{GoodPattern, patternOf, Whole, accepted, refused, Passing, passed, outcomeOf, patternFrom, readPattern}
 use Rattle.log.proofs.PatternRoundTrip.{pattern-iff}
 use Rattle.log.proofs.Steps.{History}
 use Rattle.log.proofs.LogWalk as walk
@@ -67,18 +67,18 @@ module _ (ss : List Slot) {bytes state : List ℕ} (z : Session) {at : ℕ} {out
       }
 
 -- an answer is one of the two
-apart : {A : Type 0} (n k o : ℕ) → passed n ≡ Outcome.refused k o → A
+apart : {A : Type 0} (n k o : ℕ) → passed n ≡ Passing.refused k o → A
 apart n k o h = absurd (let z : _≡_ {A = ℕ} 0 1 = cc in let f : ⊥ = omega arith in f)
 
 -- the pattern's answer tells which case its reading was
-pub refused-pattern : (pattern bytes : List ℕ) (k o : ℕ) → Outcome.refused k o ≡ outcomeOf (readPattern pattern)
+pub refused-pattern : (pattern bytes : List ℕ) (k o : ℕ) → Passing.refused k o ≡ outcomeOf (readPattern pattern)
     → RunOf pattern bytes (judgedIs (record { outcome = PatternRefused k o; numbers = replicate slots 0 }))
 refused-pattern pattern bytes k o a = go (readPattern pattern) refl
   where
     go : (w : Whole Slot) → readPattern pattern ≡ w → RunOf pattern bytes (judgedIs (record { outcome = PatternRefused k o; numbers = replicate slots 0 }))
     go (accepted ss) q = apart (length ss) k o (sym (a ∙ ap outcomeOf q))
     go (refused k' o') q =
-        let h : Outcome.refused k o ≡ Outcome.refused k' o' = a ∙ ap outcomeOf q in
+        let h : Passing.refused k o ≡ Passing.refused k' o' = a ∙ ap outcomeOf q in
         let number : k ≡ k' = cc in
         let offset : o ≡ o' = cc in
         rw (number, offset) (pattern-refused q)

@@ -4,10 +4,10 @@ use command::EventRead;
 use log::LogRead;
 use log::PatternAnswer;
 use plain::drawn;
+use run::Outcome;
 use session::Answer;
 use session::Found;
 use session::Opened;
-use run::Outcome;
 use session::Session;
 use session::Verdict;
 

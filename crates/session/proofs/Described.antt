@@ -31,7 +31,7 @@ use Rattle.dependence.specs.Dependence.{dependent}
 use Rattle.trace.specs.Match.{without}
 use Rattle.dependence.specs.Order.{HasMatch}
 use Rattle.clock.specs.Clocks.{stampBy, clocksAfter}
-use Rattle.clock.specs.Holds as clock
+use Rattle.clock.specs.Arrivals as clock
 use Rattle.clock.proofs.History as clockHistory
 use Rattle.table.specs.Table.{foundIn, numbersIn}
 use Rattle.table.specs.Keeps.{Keeps}
@@ -76,7 +76,7 @@ module _ (ss : List Slot) (es : List Event) (s : Session) (h : Describes ss es s
   room : length es < events
   room = let r : length (reverse es) < events = clear .room in let n : length (reverse es) ≡ length es = length-reverse es in omega arith
 
-  state-after : rules.Holds (reverse longer) (rules.stateAfter (s .state) (s .taken) e)
+  state-after : rules.StateOf (reverse longer) (rules.stateAfter (s .state) (s .taken) e)
   unfolding takenAfter
   state-after =
       let r = ruleLaws.handed-over (reverse es) (s .state) e (h .state) in
@@ -87,7 +87,7 @@ module _ (ss : List Slot) (es : List Event) (s : Session) (h : Describes ss es s
   accepted-after = rw (reverse-reverse es) at (taken-iff (reverse es) e (rw (reverse-reverse es) (h .accepted)) .0 z)
 
   -- the event has arrived at the clocks, and is offered to the table
-  arrived : clock.Holds es (s .clocks) → clock.Arrived es e (stampBy (s .clocks) e) (clocksAfter (s .clocks) e)
+  arrived : clock.ClocksOf es (s .clocks) → clock.Arrived es e (stampBy (s .clocks) e) (clocksAfter (s .clocks) e)
   arrived c = clockHistory.arrived (s .clocks) e _ _ refl refl .1 .1 es c room (from-range (slotOf e) (clear .range))
 
   abbrev acting : List ℕ
@@ -107,7 +107,7 @@ module _ (ss : List Slot) (es : List Event) (s : Session) (h : Describes ss es s
       let a : length (s .pattern .slots) ≡ length ss + _ = ap length (ap (λ p. p .slots) (h .pattern)) ∙ length-append ss (replicate (slots - length ss) blank) in
       omega arith
 
-  kept-after : clock.Holds es (s .clocks) → Keeps ss es (s .table) → Keeps ss longer offered-to
+  kept-after : clock.ClocksOf es (s .clocks) → Keeps ss es (s .table) → Keeps ss longer offered-to
   unfolding threadsOf fitting
   kept-after c k =
       offer-kept ss es acting fit (s .pattern .size) e (stampBy (s .clocks) e) (s .taken + 1) (s .table) k
@@ -122,7 +122,7 @@ module _ (ss : List Slot) (es : List Event) (s : Session) (h : Describes ss es s
       })
 
   -- a match is found with this event, or none yet
-  found-or-not : clock.Holds es (s .clocks) → Keeps ss es (s .table) → ¬ HasMatch ss es
+  found-or-not : clock.ClocksOf es (s .clocks) → Keeps ss es (s .table) → ¬ HasMatch ss es
       → Searched ss longer (clocksAfter (s .clocks) e) (offered-to) (cond (foundIn (offered-to) (s .pattern .size)) (s .taken + 1) 0)
   found-or-not c k d =
       by-test (foundIn (offered-to) (s .pattern .size))
@@ -173,7 +173,7 @@ module _ (ss : List Slot) (es : List Event) (s : Session) (h : Describes ss es s
           let n : s .taken + 1 ≡ length longer = ap (λ (k : ℕ). k + 1) (h .taken) ∙ sym (length-append es (e ∷ [])) in
           by-test (eqb (s .count) 0) (λ q. rw q n) (λ q. rw q n)
 
-      same-state : rules.Holds (reverse longer) (advanced s e .state)
+      same-state : rules.StateOf (reverse longer) (advanced s e .state)
       same-state = by-test (eqb (s .count) 0) (λ q. rw q state-after) (λ q. rw q state-after)
 
 -- ---- any event is handed over

@@ -16,7 +16,7 @@ use Rattle.event.specs.Slots.{slotOf, fitting, threadsOf}
 use Rattle.event.proofs.Tests.{by-test}
 use Rattle.event.proofs.InRange.{from-range}
 use Rattle.rules.specs.Accepted.{refusalAfter, some, lockOf}
-use Rattle.rules.specs.State.{Holds, refusalBy, stateAfter}
+use Rattle.rules.specs.State.{StateOf, refusalBy, stateAfter}
 use Rattle.rules.proofs.StateLaws.{taken-in-range, too-many, after-refused}
 use Rattle.clock.specs.declared.Stamp.{Stamp}
 use Rattle.clock.specs.Clocks.{stampBy, clocksAfter}
@@ -32,7 +32,7 @@ use Rattle.session.specs.Meaning.{takenBy, Describes, VerdictOf}
 use Rattle.session.proofs.Described.{handed-described, verdict-described}
 
 -- the rules' state of no events is all zeros
-pub zeros : (state : List ℕ) → Holds [] state → state ≡ replicate (threads + locks) 0
+pub zeros : (state : List ℕ) → StateOf [] state → state ≡ replicate (threads + locks) 0
 unfolding some lockOf
 zeros state h = ext-getD 0 state (replicate (threads + locks) 0) (h .size ∙ sym (length-replicate {A = ℕ} (threads + locks) 0)) entry
   where

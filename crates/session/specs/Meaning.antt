@@ -11,7 +11,7 @@ use Rattle.event.specs.Limits.{slots}
 use Rattle.rules.specs.Accepted.{Accepted, takenAfter}
 use Rattle.rules.specs.State as rules
 use Rattle.log.specs.Whole.{GoodPattern, patternOf, accepted, refused, readLog, readPattern, outcomeOf, patternAnswerIs}
-use Rattle.clock.specs.Holds as clock
+use Rattle.clock.specs.Arrivals as clock
 use Rattle.table.specs.Keeps.{Keeps}
 use Rattle.dependence.specs.Order.{HasMatch, IsCount, Named}
 use Rattle.session.specs.declared.Session.{Session}
@@ -25,7 +25,7 @@ takenBy es e = reverse (takenAfter (reverse es) e)
 
 -- what is kept for the verdict: no match yet, and all is kept of the events; or the count, and what the table kept of the leading events
 pub data Searched (ss : List Slot) (es : List Event) (clocks table : List ℕ) : ℕ → Type 0 where
-  searching : clock.Holds es clocks → Keeps ss es table → ¬ HasMatch ss es → Searched ss es clocks table 0
+  searching : clock.ClocksOf es clocks → Keeps ss es table → ¬ HasMatch ss es → Searched ss es clocks table 0
   matched : {n : ℕ} (lead later : List Event) → es ≡ lead ++ later → length lead ≡ suc n → IsCount ss lead (suc n) → Keeps ss lead table
       → Searched ss es clocks table (suc n)
 
@@ -35,7 +35,7 @@ pub record Describes (ss : List Slot) (es : List Event) (s : Session) : Type 0 w
   pub pattern : s .pattern ≡ patternOf ss
   pub taken : s .taken ≡ length es
   pub accepted : Accepted es
-  pub state : rules.Holds (reverse es) (s .state)
+  pub state : rules.StateOf (reverse es) (s .state)
   pub search : Searched ss es (s .clocks) (s .table) (s .count)
 
 -- "A session's verdict covers the events taken so far: match with the smallest count of leading events that suffices and one event number per slot,

@@ -326,8 +326,8 @@ module _ {ss : List Slot} {log : List Event} {acting : List ℕ} {marked : List 
                 x .3 ∙ getD-drop (suc k) ns (x .0) 0 ∙ listed-at (length ss) (λ j. from (lanes + j)) j (omega arith) in
                 rw g (later-test j (omega arith) t ∙ not-far (from j) (lanes-of.limit ready k j) (room j (omega arith)))
 
-            joined : Greatest longer (picked true) (some (pick (b1 ++ (true ∷ b2)) (r1 ++ (next ∷ r2))))
-            joined = arrives-joins noEvent dependent fits log e fit-one-slot b1 b2 p1 slot p2 eb new-fits no-later r1 (getD ns k 0) r2 er kept-less free
+            withEntry : Greatest longer (picked true) (some (pick (b1 ++ (true ∷ b2)) (r1 ++ (next ∷ r2))))
+            withEntry = arrives-joins noEvent dependent fits log e fit-one-slot b1 b2 p1 slot p2 eb new-fits no-later r1 (getD ns k 0) r2 er kept-less free
 
             new-number : (j : ℕ) → j < lanes → (j ≡ k → ⊥) → new (lanes + j) ≡ from (lanes + j)
             new-number j l d =
@@ -371,7 +371,7 @@ module _ {ss : List Slot} {log : List Event} {acting : List ℕ} {marked : List 
                 kept (others held (omega arith) (λ p. let z : ⊥ = omega arith in z) (λ p. let z : ⊥ = omega arith in z) ∙ there)
                 (subst (λ (l : List ℕ). Greatest longer (pick bs ss) (some (pick bs l))) (sym numbers-are)
                 (subst (λ (l : List Bool). Greatest longer (pick bs ss) (some (pick l (r1 ++ (next ∷ r2))))) (sym bs-is)
-                (subst (λ (l : List Slot). Greatest longer l (some (pick (b1 ++ (true ∷ b2)) (r1 ++ (next ∷ r2))))) (sym with-k) joined)))
+                (subst (λ (l : List Slot). Greatest longer l (some (pick (b1 ++ (true ∷ b2)) (r1 ++ (next ∷ r2))))) (sym with-k) withEntry)))
                 (record {
                   filled = λ j l t. filled-new j l t (ℕ-discrete j k);
                   no-place = λ j l t. let d = not-k j t in new-at j l d ∙ f .no-place j l (less-bit j d ∙ t);

@@ -17,44 +17,44 @@ use Rattle.clock.specs.declared.Stamp.{Stamp}
 use Rattle.table.specs.declared.Limits.{Limits}
 use Rattle.table.specs.declared.Entry.{Entry}
 use Rattle.table.specs.Sets.{lanes, width, held, sets, size, rowOf}
-use Rattle.table.specs.Table.{put, rowAt, roomTo, roomIn, limitAt, limitsTo, joined, setOffered}
+use Rattle.table.specs.Table.{pasted, rowAt, roomTo, roomIn, limitAt, limitsTo, withEntry, setOffered}
 use Rattle.table.specs.Keeps.{rowIn}
 use Rattle.table.proofs.SetLaws.{row-fits}
 
 -- ---- a part that is replaced
 
 module _ (xs : List ℕ) (f : ℕ) (ys : List ℕ) (g : ℕ) where
-  pub put-length : (n : ℕ) → length (put n xs f ys g) ≡ length xs
-  unfolding put
-  put-length zero = refl
-  put-length (suc n) = length-set (put n xs f ys g) (f + n) _ ∙ put-length n
+  pub pasted-length : (n : ℕ) → length (pasted n xs f ys g) ≡ length xs
+  unfolding pasted
+  pasted-length zero = refl
+  pasted-length (suc n) = length-set (pasted n xs f ys g) (f + n) _ ∙ pasted-length n
 
   -- what lies outside the part stays
-  pub put-outside : (n k : ℕ) → ((i : ℕ) → i < n → k ≡ f + i → ⊥) → getD (put n xs f ys g) k 0 ≡ getD xs k 0
-  unfolding put
-  put-outside zero k out = refl
-  put-outside (suc n) k out =
-      getD-set-other (put n xs f ys g) (f + n) k _ 0 (out n (omega arith)) ∙ put-outside n k (λ i l. out i (omega arith))
+  pub pasted-outside : (n k : ℕ) → ((i : ℕ) → i < n → k ≡ f + i → ⊥) → getD (pasted n xs f ys g) k 0 ≡ getD xs k 0
+  unfolding pasted
+  pasted-outside zero k out = refl
+  pasted-outside (suc n) k out =
+      getD-set-other (pasted n xs f ys g) (f + n) k _ 0 (out n (omega arith)) ∙ pasted-outside n k (λ i l. out i (omega arith))
 
   -- what lies in it is replaced
-  pub put-inside : (n i : ℕ) → i < n → f + n ≤ length xs → getD (put n xs f ys g) (f + i) 0 ≡ getD ys (g + i) 0
-  unfolding put
-  put-inside zero i l fits = absurd (omega arith)
-  put-inside (suc n) i l fits = go (ℕ-discrete i n) (λ u. put-inside n i u (omega arith))
+  pub pasted-inside : (n i : ℕ) → i < n → f + n ≤ length xs → getD (pasted n xs f ys g) (f + i) 0 ≡ getD ys (g + i) 0
+  unfolding pasted
+  pasted-inside zero i l fits = absurd (omega arith)
+  pasted-inside (suc n) i l fits = go (ℕ-discrete i n) (λ u. pasted-inside n i u (omega arith))
     where
-      go : Dec (i ≡ n) → (i < n → getD (put n xs f ys g) (f + i) 0 ≡ getD ys (g + i) 0)
-          → getD (put (suc n) xs f ys g) (f + i) 0 ≡ getD ys (g + i) 0
+      go : Dec (i ≡ n) → (i < n → getD (pasted n xs f ys g) (f + i) 0 ≡ getD ys (g + i) 0)
+          → getD (pasted (suc n) xs f ys g) (f + i) 0 ≡ getD ys (g + i) 0
       go (yes p) ih =
-          let low : f + n < length (put n xs f ys g) = rw (put-length n) (omega arith) in
-          rw p (getD-set-same (put n xs f ys g) (f + n) _ 0 low)
+          let low : f + n < length (pasted n xs f ys g) = rw (pasted-length n) (omega arith) in
+          rw p (getD-set-same (pasted n xs f ys g) (f + n) _ 0 low)
       go (no d) ih =
-          getD-set-other (put n xs f ys g) (f + n) (f + i) _ 0 (λ e. d (let z : i ≡ n = omega arith in z)) ∙ ih (omega arith)
+          getD-set-other (pasted n xs f ys g) (f + n) (f + i) _ 0 (λ e. d (let z : i ≡ n = omega arith in z)) ∙ ih (omega arith)
 
 -- the row that is read
 pub row-entry : (table : List ℕ) (f j : ℕ) → j < width → getD (rowAt table f .at) j 0 ≡ getD table (f + j) 0
 unfolding rowAt
 row-entry table f j l =
-    rw zero-add at (put-inside (replicate width 0) 0 table f width j l (rw (length-replicate {A = ℕ} width 0) (omega arith)))
+    rw zero-add at (pasted-inside (replicate width 0) 0 table f width j l (rw (length-replicate {A = ℕ} width 0) (omega arith)))
 
 -- ---- room
 
@@ -137,30 +137,30 @@ module _ (table : List ℕ) (limits : Limits) (entry : Entry) (whole : length ta
 
   -- the row r, stored at f with the entry in it
   stored : ℕ → ℕ → List ℕ
-  stored f m = joined table f (rowAt table (rowOf m)) entry
+  stored f m = withEntry table f (rowAt table (rowOf m)) entry
 
   stored-length : (f m : ℕ) → length (stored f m) ≡ size
   unfolding stored
   stored-length f m =
-      length-set (set (put width table f (rowAt table (rowOf m) .at) 0) (f + slot) (entry .place)) (f + lanes + slot) _
-      ∙ length-set (put width table f (rowAt table (rowOf m) .at) 0) (f + slot) _
-      ∙ put-length table f (rowAt table (rowOf m) .at) 0 width
+      length-set (set (pasted width table f (rowAt table (rowOf m) .at) 0) (f + slot) (entry .place)) (f + lanes + slot) _
+      ∙ length-set (pasted width table f (rowAt table (rowOf m) .at) 0) (f + slot) _
+      ∙ pasted-length table f (rowAt table (rowOf m) .at) 0 width
       ∙ whole
 
   stored-outside : (f m i : ℕ) → ((j : ℕ) → j < width → i ≡ f + j → ⊥) → getD (stored f m) i 0 ≡ getD table i 0
   unfolding stored
   stored-outside f m i out =
-      getD-set-other (set (put width table f (rowAt table (rowOf m) .at) 0) (f + slot) (entry .place)) (f + lanes + slot) i _ 0
+      getD-set-other (set (pasted width table f (rowAt table (rowOf m) .at) 0) (f + slot) (entry .place)) (f + lanes + slot) i _ 0
       (λ p. out (lanes + slot) (omega arith) (let z : i ≡ f + (lanes + slot) = omega arith in z))
-      ∙ getD-set-other (put width table f (rowAt table (rowOf m) .at) 0) (f + slot) i _ 0 (λ p. out slot (omega arith) p)
-      ∙ put-outside table f (rowAt table (rowOf m) .at) 0 width i out
+      ∙ getD-set-other (pasted width table f (rowAt table (rowOf m) .at) 0) (f + slot) i _ 0 (λ p. out slot (omega arith) p)
+      ∙ pasted-outside table f (rowAt table (rowOf m) .at) 0 width i out
 
   module _ (f m : ℕ) (fits : f + width ≤ size) where
     abbrev copied : List ℕ
-    copied = put width table f (rowAt table (rowOf m) .at) 0
+    copied = pasted width table f (rowAt table (rowOf m) .at) 0
 
     copied-length : length copied ≡ size
-    copied-length = put-length table f (rowAt table (rowOf m) .at) 0 width ∙ whole
+    copied-length = pasted-length table f (rowAt table (rowOf m) .at) 0 width ∙ whole
 
     placed-length : length (set copied (f + slot) (entry .place)) ≡ size
     placed-length = length-set copied (f + slot) _ ∙ copied-length
@@ -182,7 +182,7 @@ module _ (table : List ℕ) (limits : Limits) (entry : Entry) (whole : length ta
     stored-rest j l d e =
         getD-set-other (set copied (f + slot) (entry .place)) (f + lanes + slot) (f + j) _ 0 (λ p. e (let z : j ≡ lanes + slot = omega arith in z))
         ∙ getD-set-other copied (f + slot) (f + j) _ 0 (λ p. d (let z : j ≡ slot = omega arith in z))
-        ∙ (rw zero-add at (put-inside table f (rowAt table (rowOf m) .at) 0 width j l (rw whole fits)))
+        ∙ (rw zero-add at (pasted-inside table f (rowAt table (rowOf m) .at) 0 width j l (rw whole fits)))
         ∙ row-entry table (rowOf m) j l
 
   pub offered-length : (m : ℕ) → length (setOffered table m limits entry) ≡ size

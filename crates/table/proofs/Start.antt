@@ -17,7 +17,7 @@ use Rattle.trace.proofs.Masks.{pick}
 use Rattle.table.specs.Sets.{lanes, width, held, size, absent}
 use Rattle.table.specs.Table.{emptyRow, freshTable}
 use Rattle.table.specs.Keeps.{setNumber, rowIn, numbersOf, Keeping, kept, missing, Keeps}
-use Rattle.table.proofs.RowLaws.{put-length, put-outside, put-inside}
+use Rattle.table.proofs.RowLaws.{pasted-length, pasted-outside, pasted-inside}
 
 pub getD-zeros : (n i : ℕ) → _≡_ {A = ℕ} (getD (replicate n 0) i 0) 0
 getD-zeros zero i = refl
@@ -50,7 +50,7 @@ some-pick (false ∷ bs) (x ∷ xs) e h = some-pick bs xs (omega arith) (λ p. h
 -- of the empty set
 first-row : (j : ℕ) → j < width → rowIn freshTable 0 j ≡ getD emptyRow j 0
 unfolding freshTable
-first-row j l = put-inside (replicate size 0) 0 emptyRow 0 width j l (rw (length-replicate {A = ℕ} size 0) (omega arith)) ∙ ap (λ (i : ℕ). getD emptyRow i 0) (plain j)
+first-row j l = pasted-inside (replicate size 0) 0 emptyRow 0 width j l (rw (length-replicate {A = ℕ} size 0) (omega arith)) ∙ ap (λ (i : ℕ). getD emptyRow i 0) (plain j)
   where
     plain : (i : ℕ) → 0 + i ≡ i
     plain i = omega arith
@@ -68,7 +68,7 @@ empty-number j l =
 other-row : (m j : ℕ) → (m ≡ 0 → ⊥) → rowIn freshTable m j ≡ 0
 unfolding freshTable
 other-row m j d =
-    put-outside (replicate size 0) 0 emptyRow 0 width (m * width + j) (λ i l p. d (let z : m ≡ 0 = omega arith in z))
+    pasted-outside (replicate size 0) 0 emptyRow 0 width (m * width + j) (λ i l p. d (let z : m ≡ 0 = omega arith in z))
     ∙ getD-zeros size (m * width + j)
 
 module _ (ss : List Slot) (bs : List Bool) (len : length bs ≡ length ss) where
@@ -90,7 +90,7 @@ pub nothing-yet : (ss : List Slot) → length ss ≤ slots → Keeps ss [] fresh
 unfolding freshTable
 nothing-yet ss l =
     record {
-      whole = put-length (replicate size 0) 0 emptyRow 0 width ∙ length-replicate {A = ℕ} size 0;
+      whole = pasted-length (replicate size 0) 0 emptyRow 0 width ∙ length-replicate {A = ℕ} size 0;
       short = l;
       low = λ i a x. absurd (let u = numbered-among x in let z : ⊥ = omega arith in z);
       rows = λ bs len. start-row ss bs len (ℕ-discrete (setNumber bs) 0);

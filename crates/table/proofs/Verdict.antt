@@ -23,9 +23,9 @@ use Rattle.dependence.specs.Dependence.{dependent}
 use Rattle.dependence.specs.Order.{HasMatch, Named}
 use Rattle.clock.specs.declared.Stamp.{Stamp}
 use Rattle.table.specs.Sets.{lanes, held}
-use Rattle.table.specs.Table.{put, slotOffered, offeredDown, offered, lastRow, foundIn, numbersIn}
-use Rattle.table.specs.Keeps.{Greatest, rowIn, numbersOf, Keeping, kept, missing, Keeps, Numbers}
-use Rattle.table.proofs.RowLaws.{put-length, put-outside, put-inside}
+use Rattle.table.specs.Table.{pasted, slotOffered, offeredDown, offered, lastRow, foundIn, numbersIn}
+use Rattle.table.specs.Keeps.{Greatest, rowIn, numbersOf, Keeping, kept, missing, Keeps, NumbersFound}
+use Rattle.table.proofs.RowLaws.{pasted-length, pasted-outside, pasted-inside}
 use Rattle.table.proofs.BitLaws.{number-all, pick-all, listed-length, listed-at}
 use Rattle.table.proofs.Start.{getD-zeros}
 
@@ -77,7 +77,7 @@ module _ (ss : List Slot) (log : List Event) (table : List ℕ) (h : Keeps ss lo
 
   -- the numbers that are read
   read : List ℕ
-  read = put d (replicate slots 0) 0 table (lastRow d + lanes)
+  read = pasted d (replicate slots 0) 0 table (lastRow d + lanes)
 
   read-is : take d read ≡ numbersOf d row
   unfolding read
@@ -95,21 +95,21 @@ module _ (ss : List Slot) (log : List Event) (table : List ℕ) (h : Keeps ss lo
       whole : length (take d read) ≡ d
       whole =
           let l = s in
-          length-take-le d read (rw (put-length (replicate slots 0) 0 table (lastRow d + lanes) d, length-replicate {A = ℕ} slots 0) l)
+          length-take-le d read (rw (pasted-length (replicate slots 0) 0 table (lastRow d + lanes) d, length-replicate {A = ℕ} slots 0) l)
 
       each : (i : ℕ) → i < d → getD (take d read) i 0 ≡ getD (numbersOf d row) i 0
       each i l =
           getD-take d read i 0 l
-          ∙ (rw zero-add at (put-inside (replicate slots 0) 0 table (lastRow d + lanes) d i l fits-in))
+          ∙ (rw zero-add at (pasted-inside (replicate slots 0) 0 table (lastRow d + lanes) d i l fits-in))
           ∙ ap (λ (j : ℕ). getD table j 0) (add-assoc (lastRow d) lanes i)
           ∙ sym (listed-at d (λ j. row (lanes + j)) i l)
 
   read-beyond : (j : ℕ) → d ≤ j → getD read j 0 ≡ 0
   unfolding read
   read-beyond j l =
-      put-outside (replicate slots 0) 0 table (lastRow d + lanes) d j (λ i u p. let z : ⊥ = omega arith in z) ∙ getD-zeros slots j
+      pasted-outside (replicate slots 0) 0 table (lastRow d + lanes) d j (λ i u p. let z : ⊥ = omega arith in z) ∙ getD-zeros slots j
 
-  pub found-numbers : Numbers ss log (numbersIn table d)
+  pub found-numbers : NumbersFound ss log (numbersIn table d)
   unfolding numbersIn read
   found-numbers =
       by-test (foundIn table d)

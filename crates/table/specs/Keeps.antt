@@ -17,7 +17,7 @@ use Rattle.trace.proofs.Stamps.{place, threadAt}
 use Rattle.dependence.specs.Dependence.{dependent}
 use Rattle.dependence.specs.Order.{threadOf, HasMatch, Named}
 use Rattle.clock.specs.declared.Stamp.{Stamp}
-use Rattle.clock.specs.Holds.{StampOf}
+use Rattle.clock.specs.Arrivals.{StampOf}
 use Rattle.table.specs.Sets.{lanes, held, size, rowOf, absent}
 
 -- the greatest of the good tuples of the slots, slot by slot, over the events of the log; `none` where there is none
@@ -76,7 +76,7 @@ pub record Follows (ss : List Slot) (log : List Event) (acting : List ℕ) (fit 
 
 -- "match with the smallest count of leading events that suffices and one event number per slot, or none with count 0 and all slot
 -- numbers 0"; "Numbers beyond the pattern's length are 0.": the numbers that are found in the table
-pub record Numbers (ss : List Slot) (log : List Event) (numbers : List ℕ) : Type 0 where
+pub record NumbersFound (ss : List Slot) (log : List Event) (numbers : List ℕ) : Type 0 where
   pub named : HasMatch ss log → Named ss log (length log) (take (length ss) numbers)
   pub without : ¬ HasMatch ss log → numbers ≡ replicate slots 0
   pub beyond : (j : ℕ) → length ss ≤ j → getD numbers j 0 ≡ 0

@@ -24,7 +24,7 @@ size = sets * width
 abbrev pub rowOf : ℕ → ℕ
 rowOf m = m * width
 
--- the sets without the slot k in rising order, from the empty one on: the bits of i, with a 0 put in at k
+-- the sets without the slot k in rising order, from the empty one on: the bits of i, with a 0 pasted in at k
 unfoldable pub spread : ℕ → ℕ → ℕ
 spread k i = i + i / 2 ^ k * 2 ^ k
 

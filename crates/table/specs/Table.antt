@@ -16,13 +16,13 @@ use Rattle.table.specs.Sets.{lanes, width, held, size, rowOf, spread, ab
 -- ---- rows
 
 -- the list xs, its n entries from f on replaced by those of ys from g on
-unfoldable pub put : ℕ → List ℕ → ℕ → List ℕ → ℕ → List ℕ
-put zero xs f ys g = xs
-put (suc n) xs f ys g = set (put n xs f ys g) (f + n) (getD ys (g + n) 0)
+unfoldable pub pasted : ℕ → List ℕ → ℕ → List ℕ → ℕ → List ℕ
+pasted zero xs f ys g = xs
+pasted (suc n) xs f ys g = set (pasted n xs f ys g) (f + n) (getD ys (g + n) 0)
 
 -- the row that starts at f
 unfoldable pub rowAt : List ℕ → ℕ → Row
-rowAt table f = record { at = put width (replicate width 0) 0 table f }
+rowAt table f = record { at = pasted width (replicate width 0) 0 table f }
 
 -- each of the first n places is at least its limit
 unfoldable pub roomTo : ℕ → List ℕ → List ℕ → Bool
@@ -48,14 +48,14 @@ limitsAfter acting k stamp = record { at = limitsTo slots acting k stamp }
 -- ---- an event is offered
 
 -- the table with the row r and the entry in it stored at f
-abbrev pub joined : List ℕ → ℕ → Row → Entry → List ℕ
-joined table f r entry = set (set (put width table f (r .at) 0) (f + entry .slot) (entry .place)) (f + lanes + entry .slot) (entry .number)
+abbrev pub withEntry : List ℕ → ℕ → Row → Entry → List ℕ
+withEntry table f r entry = set (set (pasted width table f (r .at) 0) (f + entry .slot) (entry .place)) (f + lanes + entry .slot) (entry .number)
 
 -- to the set m, which has not the slot: where it has a row with room, it gives the row of the set with the slot
 unfoldable pub setOffered : List ℕ → ℕ → Limits → Entry → List ℕ
 setOffered table m limits entry =
     cond (eqb (getD table (rowOf m + held) 0) 0) table
-    (cond (roomIn (rowAt table (rowOf m)) limits) (joined table (rowOf (m + 2 ^ entry .slot)) (rowAt table (rowOf m)) entry) table)
+    (cond (roomIn (rowAt table (rowOf m)) limits) (withEntry table (rowOf (m + 2 ^ entry .slot)) (rowAt table (rowOf m)) entry) table)
 
 -- to the first n sets without the slot
 unfoldable pub sweptTo : ℕ → List ℕ → Limits → Entry → List ℕ
@@ -89,7 +89,7 @@ abbrev pub emptyRow : List ℕ
 emptyRow = replicate lanes absent ++ (replicate (lanes - 1) 0 ++ (1 ∷ []))
 
 unfoldable pub freshTable : List ℕ
-freshTable = put width (replicate size 0) 0 emptyRow 0
+freshTable = pasted width (replicate size 0) 0 emptyRow 0
 
 -- where the row of all n slots starts
 abbrev pub lastRow : ℕ → ℕ
@@ -101,4 +101,4 @@ foundIn table n = cond (leb n slots) (not (eqb (getD table (lastRow n + held) 0)
 
 -- the event numbers of that row
 unfoldable pub numbersIn : List ℕ → ℕ → List ℕ
-numbersIn table n = cond (foundIn table n) (put n (replicate slots 0) 0 table (lastRow n + lanes)) (replicate slots 0)
+numbersIn table n = cond (foundIn table n) (pasted n (replicate slots 0) 0 table (lastRow n + lanes)) (replicate slots 0)

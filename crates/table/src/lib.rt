@@ -14,9 +14,9 @@ ghost use Rattle.event.specs.Keys.{keyOf};
 ghost use Rattle.event.specs.Slots.{slotOf, fits, noSlot};
 ghost use Rattle.dependence.specs.Order.{HasMatch};
 ghost use Rattle.table.specs.Sets.{sets, width, size as tableSize};
-ghost use Rattle.table.specs.Table.{put, rowAt, roomIn, limitAt, limitsAfter, joined, setOffered, sweptTo, offered, freshTable, lastRow, foundIn, numbersIn};
+ghost use Rattle.table.specs.Table.{pasted, rowAt, roomIn, limitAt, limitsAfter, withEntry, setOffered, sweptTo, offered, freshTable, lastRow, foundIn, numbersIn};
 ghost use Rattle.table.specs.Keys.{KeysOf, wantsTo};
-ghost use Rattle.table.specs.Keeps.{Keeps, Follows, Numbers};
+ghost use Rattle.table.specs.Keeps.{Keeps, Follows, NumbersFound};
 
 // A row has the places of the slots, then their event numbers, and last whether there is a row.
 const LANES: usize = 8;
@@ -190,7 +190,7 @@ fn limit(thread: u8, later: bool, stamp: Stamp) -> u16
     stamp.at[t]
 }
 
-// Goes through the sets without the entry's slot, which are half of all: the bits of i, with a 0 put in at the slot.
+// Goes through the sets without the entry's slot, which are half of all: the bits of i, with a 0 pasted in at the slot.
 fn sweep(table: &mut [u16; TABLE], half: usize, limits: Limits, entry: Entry)
     requires { ⌜ (entry .slot < slotLimit) × (2 * half ≤ sets) ⌝ }
     ensures { λ _. ⌜ now (table .exit) ≡ sweptTo half (now (table .entry)) limits entry ⌝ }
@@ -203,7 +203,7 @@ fn sweep(table: &mut [u16; TABLE], half: usize, limits: Limits, entry: Entry)
     }
 }
 
-// With the entry put into its row, the set m, which has not the entry's slot, gives the row of the set that has it too.
+// With the entry pasted into its row, the set m, which has not the entry's slot, gives the row of the set that has it too.
 fn offer_set(table: &mut [u16; TABLE], m: usize, p: usize, limits: Limits, entry: Entry)
     requires { ⌜ (entry .slot < slotLimit) × ((m + p < sets) × (p ≡ 2 ^ entry .slot)) ⌝ }
     ensures { λ _. ⌜ now (table .exit) ≡ setOffered (now (table .entry)) m limits entry ⌝ }
@@ -222,7 +222,7 @@ fn offer_set(table: &mut [u16; TABLE], m: usize, p: usize, limits: Limits, entry
 // Stores the row with the entry in it.
 fn join(table: &mut [u16; TABLE], to: usize, r: Row, entry: Entry)
     requires { ⌜ (to + width ≤ tableSize) × (entry .slot < slotLimit) ⌝ }
-    ensures { λ _. ⌜ now (table .exit) ≡ joined (now (table .entry)) to r entry ⌝ }
+    ensures { λ _. ⌜ now (table .exit) ≡ withEntry (now (table .entry)) to r entry ⌝ }
 {
     store(table, to, r);
     let k = entry.slot;
@@ -243,7 +243,7 @@ fn row_at(table: &[u16; TABLE], from: usize) -> Row
 
 fn store(table: &mut [u16; TABLE], to: usize, r: Row)
     requires { ⌜ to + width ≤ tableSize ⌝ }
-    ensures { λ _. ⌜ now (table .exit) ≡ put width (now (table .entry)) to (r .at) 0 ⌝ }
+    ensures { λ _. ⌜ now (table .exit) ≡ pasted width (now (table .entry)) to (r .at) 0 ⌝ }
 {
     for j in 0..ROW {
         table[to + j] = r.at[j];
@@ -291,7 +291,7 @@ fn last_row(size: usize) -> usize
 // The event numbers of that row in the slots' order; 0 beyond the slots, and where there is no row.
 pub fn numbers(table: &[u16; TABLE], size: usize) -> [u16; event::SLOTS]
     ensures exact { λ r. ⌜ r ≡ numbersIn (now (table .entry)) size ⌝ }
-    ensures history { λ r. ⌜ ((ss : List Slot) (log : List Event) → Keeps ss log (now (table .entry)) → size ≡ length ss → Numbers ss log r) ⌝ }
+    ensures history { λ r. ⌜ ((ss : List Slot) (log : List Event) → Keeps ss log (now (table .entry)) → size ≡ length ss → NumbersFound ss log r) ⌝ }
 {
     if !found(table, size) {
         return [0; event::SLOTS];

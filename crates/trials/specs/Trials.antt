@@ -7,7 +7,7 @@ use lib.IntN.{ℤ, pos, negℤ}
 use Rattle.event.specs.declared.Event.{Event}
 use Rattle.event.specs.declared.Slot.{Slot}
 use Rattle.command.specs.Bytes.{Bytes}
-use Rattle.log.specs.Whole.{Outcome, passed, accepted, outcomeOf, readLog, readPattern}
+use Rattle.log.specs.Whole.{Passing, passed, accepted, outcomeOf, readLog, readPattern}
 use Rattle.dependence.specs.Order.{HasMatch, IsCount, Named}
 use Rattle.listing_text.specs.Text.{ascii, heightText}
 
@@ -23,7 +23,7 @@ pub data Verdict : Type 0 where
 pub data Trial : Type 0 where
   judged : List ℕ → List ℕ → Verdict → Trial
   any-pattern : List ℕ → Verdict → Trial
-  reads : List ℕ → Outcome → Trial
+  reads : List ℕ → Passing → Trial
   prints : ℤ → List ℕ → Trial
 
 -- the verdict is that of the slots and the events: "A list has a match when some order reached from it holds the pattern,
@@ -121,15 +121,15 @@ trials =
     -- "With T0's a write in both log and pattern: none."
     ∷ judged (closed (read T1 3 ∷ write T0 3 ∷ [])) (closed ((write T0 3 ++ height-0) ∷ read T1 3 ∷ [])) none
     -- 6. "T0 acquires lock 2 twice: 11 at offset 3."
-    ∷ reads (closed (acquire T0 2 ∷ acquire T0 2 ∷ [])) (Outcome.refused 11 3)
+    ∷ reads (closed (acquire T0 2 ∷ acquire T0 2 ∷ [])) (Passing.refused 11 3)
     -- 7. "T0 forks 1, T1 mark 5; pattern T1 mark 5, T0 fork 1: none."
     ∷ judged (closed (mark T1 5 ∷ fork T0 1 ∷ [])) (closed (fork T0 1 ∷ mark T1 5 ∷ [])) none
     -- 8. "Thread 7 is taken, 8 gives 5."
     ∷ reads (closed (mark 7 5 ∷ [])) (passed 1)
-    ∷ reads (closed (mark 8 5 ∷ [])) (Outcome.refused 5 0)
+    ∷ reads (closed (mark 8 5 ∷ [])) (Passing.refused 5 0)
     -- "Variable 31 is taken, 32 gives 6."
     ∷ reads (closed (read T0 31 ∷ [])) (passed 1)
-    ∷ reads (closed (read T0 32 ∷ [])) (Outcome.refused 6 0)
+    ∷ reads (closed (read T0 32 ∷ [])) (Passing.refused 6 0)
     -- 9. "49 mm prints 0.0, 50 prints 0.1, −49 prints 0.0, −50 prints -0.1, −400 prints -0.4; −2,147,483,648 prints -2147483.6."
     ∷ prints (pos 49) (ascii "0.0")
     ∷ prints (pos 50) (ascii "0.1")

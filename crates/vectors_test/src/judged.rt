@@ -2,9 +2,9 @@
 use command::Decoded;
 use event::Event;
 use order::Order;
+use run::Outcome;
 use session::Answer;
 use session::Found;
-use run::Outcome;
 use session::Session;
 use session::Verdict;
 

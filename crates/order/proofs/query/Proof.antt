@@ -12,7 +12,7 @@ use Rattle.rules.proofs.StateLaws.{clear}
 use Rattle.log.specs.Step.{steppedIs}
 use Rattle.log.proofs.Steps.{the-end}
 use Rattle.log.proofs.LogWalk.{Going, start, at-end, broken, none, room, one-more, shorter}
-use Rattle.clock.specs.Holds.{Holds}
+use Rattle.clock.specs.Arrivals.{ClocksOf}
 use Rattle.order.specs.Query.{refused-log}
 use Rattle.order.proofs.Watched.{Watched, nothing-yet, answers, next}
 use Rattle.order.proofs.query.Statement.{statement}
@@ -20,7 +20,7 @@ use Rattle.order.proofs.query.Tie as tie
 
 abbrev Inv-loop : tie.InvT-loop
 Inv-loop log first second state₀ clocks₀ watch₀ taken₀ at₀ state clocks watch taken at =
-    (past : List Event) × Going log state taken at past × Holds (reverse past) clocks × Watched (reverse past) first second watch
+    (past : List Event) × Going log state taken at past × ClocksOf (reverse past) clocks × Watched (reverse past) first second watch
 
 abbrev μ-loop : tie.MeasureT-loop
 μ-loop log first second state₀ clocks₀ watch₀ taken₀ at₀ state clocks watch taken at = length log - at

@@ -28,7 +28,7 @@ use borrow.Author.Tests.{not-true}
 use Rattle.run.proofs.run_on.Statement.{statement}
 use Rattle.run.proofs.run_on.Tie as tie
 
-record Kept (log : List ℕ) (p₀ z : Session) (slots : List Slot) (size : ℕ) (acting keys : List ℕ) (at : ℕ) : Type 0 where
+record Looping (log : List ℕ) (p₀ z : Session) (slots : List Slot) (size : ℕ) (acting keys : List ℕ) (at : ℕ) : Type 0 where
   few : z .taken ≤ events
   slots-are : slots ≡ z .pattern .slots
   size-is : size ≡ z .pattern .size
@@ -37,7 +37,7 @@ record Kept (log : List ℕ) (p₀ z : Session) (slots : List Slot) (size : ℕ)
   running : (ss : List Slot) → GoodPattern ss → p₀ .pattern ≡ patternOf ss → Running ss log z at
 
 abbrev Inv-loop : tie.InvT-loop
-Inv-loop log z₀ slots size acting keys at₀ z at = Kept log z₀ z slots size acting keys at
+Inv-loop log z₀ slots size acting keys at₀ z at = Looping log z₀ z slots size acting keys at
 
 abbrev μ-loop : tie.MeasureT-loop
 μ-loop log z₀ slots size acting keys at₀ z at = length log - at
@@ -68,7 +68,7 @@ less t = let m = onward true _ (t .before .before .before .before .before .befor
 again : (t : Read) (after : Session)
     → ((ss : List Slot) → GoodPattern ss → t .before .before .before .before .before .before .before .before .before .before .before .fresh .result .pattern ≡ patternOf ss → after ≡ advanced (t .before .before .before .before .before .before .before .loop .z) (t .before .before .before .before .read .given .0 .0)) → after .pattern ≡ t .before .before .before .before .before .before .before .loop .z .pattern
     → after .state ≡ t .before .admit .last .0 → after .taken ≡ t .before .before .before .before .before .before .before .loop .z .taken + 1
-    → Kept (t .before .before .before .before .before .before .before .before .before .before .before .before .before .args .log .now) (t .before .before .before .before .before .before .before .before .before .before .before .fresh .result) after (t .before .before .before .before .before .before .before .before .before .before .before .before .before .args .p .slots) (t .before .before .before .before .before .before .before .before .before .before .before .before .before .args .p .size) (t .before .before .before .before .before .before .before .before .before .threads-of .result) (t .before .before .before .before .before .before .before .before .keys .result) (t .before .before .before .before .read .given .0 .1 .0)
+    → Looping (t .before .before .before .before .before .before .before .before .before .before .before .before .before .args .log .now) (t .before .before .before .before .before .before .before .before .before .before .before .fresh .result) after (t .before .before .before .before .before .before .before .before .before .before .before .before .before .args .p .slots) (t .before .before .before .before .before .before .before .before .before .before .before .before .before .args .p .size) (t .before .before .before .before .before .before .before .before .before .threads-of .result) (t .before .before .before .before .before .before .before .before .keys .result) (t .before .before .before .before .read .given .0 .1 .0)
 again t after p q s n =
     let l = t .before .before .before .before .before .before .before .loop in
     record {
@@ -210,7 +210,7 @@ count-at-requires : tie.Need-count-at-requires Inv-loop μ-loop
 count-at-requires c κs = search needs
 
 loop-less-3 : tie.Need-loop-less-3 Inv-loop μ-loop
-loop-less-3 c = less (c .before .before .before .before .before .before .before .before .before .before .before .before )
+loop-less-3 c = less (c .before .before .before .before .before .before .before .before .before .before .before .before)
 
 loop-again-3 : tie.Need-loop-again-3 Inv-loop μ-loop
 loop-again-3 c =

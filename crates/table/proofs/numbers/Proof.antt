@@ -5,7 +5,7 @@ use native.Mathlib.Nat.{zero-add}
 use mathlib.Core.Path.{_≡_, refl, sym, _∙_}
 use Rattle.event.specs.Limits.{slots as slotLimit}
 use Rattle.table.specs.Sets.{lanes, width, size as tableSize}
-use Rattle.table.specs.Table.{put, foundIn, numbersIn}
+use Rattle.table.specs.Table.{pasted, foundIn, numbersIn}
 use Rattle.table.proofs.SetLaws.{found-small}
 use borrow.Author.Tests.{not-true, not-false}
 use mathlib.Core.Bool.{true}
@@ -13,7 +13,7 @@ use mathlib.Core.List.{List}
 use lib.ListN.{length}
 use Rattle.event.specs.declared.Slot.{Slot}
 use Rattle.event.specs.declared.Event.{Event}
-use Rattle.table.specs.Keeps.{Keeps, Numbers}
+use Rattle.table.specs.Keeps.{Keeps, NumbersFound}
 use Rattle.table.proofs.Verdict.{found-numbers}
 use borrow.Author.Needs.{needs}
 use Rattle.table.proofs.numbers.Statement.{statement}
@@ -21,11 +21,11 @@ use Rattle.table.proofs.numbers.Tie as tie
 
 -- the history follows from the exact clause
 both : (n : ℕ) (table r : List ℕ) → r ≡ numbersIn table n
-    → (r ≡ numbersIn table n) × ((ss : List Slot) (log : List Event) → Keeps ss log table → n ≡ length ss → Numbers ss log r)
+    → (r ≡ numbersIn table n) × ((ss : List Slot) (log : List Event) → Keeps ss log table → n ≡ length ss → NumbersFound ss log r)
 both n table r p = (p, λ ss log h q. rw (p, q) (found-numbers ss log table h))
 
 abbrev Inv-loop : tie.InvT-loop
-Inv-loop table size last r₀ j₀ r j = (j ≤ size) × (size ≤ slotLimit) × (last + width ≤ tableSize) × (r ≡ put j r₀ 0 table (last + lanes))
+Inv-loop table size last r₀ j₀ r j = (j ≤ size) × (size ≤ slotLimit) × (last + width ≤ tableSize) × (r ≡ pasted j r₀ 0 table (last + lanes))
 
 abbrev μ-loop : tie.MeasureT-loop
 μ-loop table size last r₀ j₀ r j = size - j
@@ -45,7 +45,7 @@ last-row-requires : tie.Need-last-row-requires Inv-loop μ-loop
 last-row-requires c κs = found-small _ _ (found-is c)
 
 loop-holds : tie.Need-loop-holds Inv-loop μ-loop
-unfolding put
+unfolding pasted
 loop-holds c = (search needs, found-small _ _ (found-is (c .before)), c .last-row .ensures .1, refl)
 
 add-r : tie.Need-add-r Inv-loop μ-loop
@@ -73,7 +73,7 @@ loop-less : tie.Need-loop-less Inv-loop μ-loop
 loop-less c = search needs
 
 loop-again : tie.Need-loop-again Inv-loop μ-loop
-unfolding put
+unfolding pasted
 loop-again c = (search needs, search needs, search needs, rw (add-one, zero-add, c .before .before .loop .inv .3))
 
 returns-2 : tie.Need-returns-2 Inv-loop μ-loop

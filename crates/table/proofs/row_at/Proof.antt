@@ -5,19 +5,19 @@ use native.Mathlib.Nat.{zero-add}
 use mathlib.Core.Path.{_≡_, refl, ap}
 use mathlib.Core.List.{List}
 use Rattle.table.specs.Sets.{width}
-use Rattle.table.specs.Table.{put, rowAt}
+use Rattle.table.specs.Table.{pasted, rowAt}
 use borrow.Author.Needs.{needs}
 use Rattle.table.proofs.row_at.Statement.{statement}
 use Rattle.table.proofs.row_at.Tie as tie
 
 abbrev Inv-loop : tie.InvT-loop
-Inv-loop table from r₀ j₀ r j = (j ≤ width) × (r .at ≡ put j (r₀ .at) 0 table from)
+Inv-loop table from r₀ j₀ r j = (j ≤ width) × (r .at ≡ pasted j (r₀ .at) 0 table from)
 
 abbrev μ-loop : tie.MeasureT-loop
 μ-loop table from r₀ j₀ r j = width - j
 
 loop-holds : tie.Need-loop-holds Inv-loop μ-loop
-unfolding put
+unfolding pasted
 loop-holds c = (search needs, refl)
 
 add-r : tie.Need-add-r Inv-loop μ-loop
@@ -42,7 +42,7 @@ loop-less : tie.Need-loop-less Inv-loop μ-loop
 loop-less c = search needs
 
 loop-again : tie.Need-loop-again Inv-loop μ-loop
-unfolding put
+unfolding pasted
 loop-again c = (search needs, rw (add-one, zero-add, c .before .before .loop .inv .1))
 
 returns : tie.Need-returns Inv-loop μ-loop

@@ -4,19 +4,19 @@ use native.Mathlib.Numerals.{add-one}
 use native.Mathlib.Nat.{zero-add}
 use mathlib.Core.Path.{_≡_, refl}
 use Rattle.table.specs.Sets.{width}
-use Rattle.table.specs.Table.{put}
+use Rattle.table.specs.Table.{pasted}
 use borrow.Author.Needs.{needs}
 use Rattle.table.proofs.store.Statement.{statement}
 use Rattle.table.proofs.store.Tie as tie
 
 abbrev Inv-loop : tie.InvT-loop
-Inv-loop table₀ to r j₀ table j = (j ≤ width) × (table ≡ put j table₀ to (r .at) 0)
+Inv-loop table₀ to r j₀ table j = (j ≤ width) × (table ≡ pasted j table₀ to (r .at) 0)
 
 abbrev μ-loop : tie.MeasureT-loop
 μ-loop table₀ to r j₀ table j = width - j
 
 loop-holds : tie.Need-loop-holds Inv-loop μ-loop
-unfolding put
+unfolding pasted
 loop-holds c = (search needs, refl)
 
 mul-table : tie.Need-mul-table Inv-loop μ-loop
@@ -41,7 +41,7 @@ loop-less : tie.Need-loop-less Inv-loop μ-loop
 loop-less c = search needs
 
 loop-again : tie.Need-loop-again Inv-loop μ-loop
-unfolding put
+unfolding pasted
 loop-again c = (search needs, rw (add-one, zero-add, c .before .before .loop .inv .1))
 
 returns : tie.Need-returns Inv-loop μ-loop

@@ -28,11 +28,11 @@ pub record IsClock (log : List Event) (c : Channel) (t n : ℕ) : Type 0 where
   pub highest : (k : ℕ) → Told log c t k → k ≤ n
 
 -- the clocks are those of the events that arrived
-pub record Holds (log : List Event) (clocks : List ℕ) : Type 0 where
+pub record ClocksOf (log : List Event) (clocks : List ℕ) : Type 0 where
   pub whole : length clocks ≡ size
   pub entry : (c : Channel) → Known c → (t : ℕ) → t < threads → IsClock log c t (getD clocks (rowOf c + t) 0)
 
 -- an event has arrived after those of the log: s is its stamp, and the clocks hold it too
 pub record Arrived (log : List Event) (e : Event) (s : Stamp) (clocks : List ℕ) : Type 0 where
   pub stamp : StampOf (log ++ (e ∷ [])) (length log + 1) s
-  pub holds : Holds (log ++ (e ∷ [])) clocks
+  pub holds : ClocksOf (log ++ (e ∷ [])) clocks
