@@ -3,6 +3,7 @@ use command::Decoded;
 use log::Pattern;
 use log::PatternAnswer;
 use session::Found;
+use session::Session;
 use session::Verdict;
 ghost use mathlib.Core.Path.{_≡_};
 ghost use mathlib.Core.List.{List};
@@ -22,7 +23,7 @@ pub enum Outcome {
 
 pub struct Judged {
     pub outcome: Outcome,
-    pub numbers: [u16; event::SLOTS],
+    pub numbers: [u16; Session::SLOTS],
 }
 
 // Judges a whole log by a pattern.
@@ -35,7 +36,7 @@ pub fn run(pattern: &[u8], log: &[u8]) -> Judged
     match answer {
         PatternAnswer::PatternRefused { number, offset } => Judged {
             outcome: Outcome::PatternRefused { number, offset },
-            numbers: [0; event::SLOTS],
+            numbers: [0; Session::SLOTS],
         },
         PatternAnswer::Accepted { slots: _ } => run_on(p, log),
     }
@@ -87,7 +88,7 @@ fn log_refused(number: u8, offset: usize) -> Judged
 {
     Judged {
         outcome: Outcome::LogRefused { number, offset },
-        numbers: [0; event::SLOTS],
+        numbers: [0; Session::SLOTS],
     }
 }
 

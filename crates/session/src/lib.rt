@@ -6,6 +6,7 @@ ghost use mathlib.Core.Path.{_≡_};
 ghost use mathlib.Core.List.{List, reverse};
 ghost use Rattle.event.specs.declared.Event.{Event};
 ghost use Rattle.event.specs.declared.Slot.{Slot};
+ghost use Rattle.event.specs.Limits.{threads as threadLimit, slots as slotLimit, events as eventLimit};
 ghost use Rattle.rules.specs.Accepted.{refusalAfter};
 ghost use Rattle.rules.specs.State.{refusalBy};
 ghost use Rattle.session.specs.Answers.{refusal, answerIs, verdictIs};
@@ -46,7 +47,7 @@ pub enum Found {
 // Whether there is a match, and the event number of each slot; 0 beyond the pattern and without a match.
 pub struct Verdict {
     pub found: Found,
-    pub numbers: [u16; event::SLOTS],
+    pub numbers: [u16; Session::SLOTS],
 }
 
 impl Session {
@@ -55,6 +56,25 @@ impl Session {
     pub const SLOTS: usize = event::SLOTS;
 
     pub const EVENTS: usize = event::EVENTS;
+
+    // How many threads there are, how many slots a pattern may have, and how many events a session takes.
+    pub fn threads() -> u8
+        ensures { λ r. ⌜ r ≡ threadLimit ⌝ }
+    {
+        Self::THREADS
+    }
+
+    pub fn slots() -> usize
+        ensures { λ r. ⌜ r ≡ slotLimit ⌝ }
+    {
+        Self::SLOTS
+    }
+
+    pub fn events() -> usize
+        ensures { λ r. ⌜ r ≡ eventLimit ⌝ }
+    {
+        Self::EVENTS
+    }
 
     // Opens a session on a pattern.
     pub fn open(pattern: &[u8]) -> Opened
@@ -127,8 +147,8 @@ pub fn hand(
     table: &mut [u16; table::TABLE],
     taken: &mut u16,
     count: &mut u16,
-    acting: [u8; event::SLOTS],
-    fit: [bool; event::SLOTS],
+    acting: [u8; Session::SLOTS],
+    fit: [bool; Session::SLOTS],
     size: usize,
     e: Event,
 ) -> u8
