@@ -36,7 +36,7 @@ unfoldable pub refusalsAll : List Event → List Numbers → List ℕ
 refusalsAll es [] = []
 refusalsAll es (n ∷ ns) = refusalOf (reverse es) n ∷ refusalsAll (takenWith es n) ns
 
--- an event in numbers
+-- the height of a write, and 0 where there is none
 abbrev pub heightIn : Operation → ℤ
 heightIn (Read v) = pos 0
 heightIn (Write v h) = h
@@ -46,6 +46,7 @@ heightIn (Fork c) = pos 0
 heightIn (Join c) = pos 0
 heightIn (Mark m) = pos 0
 
+-- an event in numbers
 abbrev pub inNumbers : Event → Numbers
 inNumbers e = handedOver (e .thread) (byteOf (withoutHeight (e .operation))) (objectOf (withoutHeight (e .operation))) (heightIn (e .operation))
 

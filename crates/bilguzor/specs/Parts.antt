@@ -8,7 +8,7 @@ use Rattle.session.specs.declared.Session.{Session}
 use Rattle.session.specs.Model.{Kept}
 use Rattle.bilguzor.specs.declared.Parts.{Parts}
 
--- the parts that a caller lends, in the order of the parameters
+-- the parts that a caller lends
 abbrev pub lent : List ℕ → ℕ → List ℕ → List ℕ → List ℕ → ℕ → ℕ → Parts
 lent slots size state clocks table taken count =
     record { slots = slots; size = size; state = state; clocks = clocks; table = table; taken = taken; count = count }

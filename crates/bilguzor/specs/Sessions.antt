@@ -1,4 +1,4 @@
--- What opening, an event in numbers and the verdict answer of a session in parts, and what is so of every history.
+-- What opening, an event in numbers and the verdict answer of a session in parts.
 use Prim.Native.Nat.{ℕ, _<_}
 use mathlib.Core.Path.{_≡_}
 use mathlib.Core.Bool.{Bool, cond, _||_}

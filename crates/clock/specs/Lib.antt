@@ -1,4 +1,4 @@
--- The clocks as lists of numbers, what they hold of the events that arrived, and what an order query answers.
+-- The clocks as lists of numbers, and what they hold of the events that arrived.
 pub mod Rows
 pub mod Clocks
 pub mod Arrivals

@@ -13,6 +13,7 @@ use Rattle.event.specs.declared.Slot.{Slot}
 use Rattle.event.specs.Limits.{slots, events}
 use Rattle.event.specs.Slots.{slotOf, fits, noSlot, fitting, threadsOf}
 use Rattle.event.proofs.Filled.{map-at}
+use Rattle.event.proofs.OneSlot.{fits-thread}
 use Rattle.event.proofs.Tests.{by-test}
 use Rattle.event.proofs.InRange.{from-range}
 use Rattle.rules.specs.Accepted.{refusalAfter, takenAfter, Accepted, whole}
@@ -55,7 +56,7 @@ fresh-described ss g =
       taken = refl;
       accepted = whole;
       state = ruleLaws.nothing-yet;
-      search = searching clockHistory.nothing-yet (tableStart.nothing-yet ss (g .few)) (no-match-yet ss (g .some));
+      search = searching clockHistory.nothing-yet (tableStart.nothing-yet fits ss (g .few)) (no-match-yet ss (g .some));
     }
 
 -- ---- an event is taken
@@ -107,10 +108,10 @@ module _ (ss : List Slot) (es : List Event) (s : Session) (h : Describes ss es s
       let a : length (s .pattern .slots) ≡ length ss + _ = ap length (ap (λ p. p .slots) (h .pattern)) ∙ length-append ss (replicate (slots - length ss) blank) in
       omega arith
 
-  kept-after : clock.ClocksOf es (s .clocks) → Keeps ss es (s .table) → Keeps ss longer offered-to
+  kept-after : clock.ClocksOf es (s .clocks) → Keeps fits ss es (s .table) → Keeps fits ss longer offered-to
   unfolding threadsOf fitting
   kept-after c k =
-      offer-kept ss es acting fit (s .pattern .size) e (stampBy (s .clocks) e) (s .taken + 1) (s .table) k
+      offer-kept fits fits-thread ss es acting fit (s .pattern .size) e (stampBy (s .clocks) e) (s .taken + 1) (s .table) k
       (record {
         acting-is = λ j l. map-at (λ x. x .thread) (s .pattern .slots) noSlot 0 j (slot-there j l) ∙ ap (λ x. x .thread) (slot-at j l);
         fit-is = λ j l. map-at (λ x. fits x e) (s .pattern .slots) noSlot false j (slot-there j l) ∙ ap (λ x. fits x e) (slot-at j l);
@@ -122,16 +123,16 @@ module _ (ss : List Slot) (es : List Event) (s : Session) (h : Describes ss es s
       })
 
   -- a match is found with this event, or none yet
-  found-or-not : clock.ClocksOf es (s .clocks) → Keeps ss es (s .table) → ¬ HasMatch ss es
+  found-or-not : clock.ClocksOf es (s .clocks) → Keeps fits ss es (s .table) → ¬ HasMatch ss es
       → Searched ss longer (clocksAfter (s .clocks) e) (offered-to) (cond (foundIn (offered-to) (s .pattern .size)) (s .taken + 1) 0)
   found-or-not c k d =
       by-test (foundIn (offered-to) (s .pattern .size))
       (λ q.
-      let m = found-match ss longer (offered-to) (kept-after c k) .0 (by-size ∙ q) in
+      let m = found-match fits ss longer (offered-to) (kept-after c k) .0 (by-size ∙ q) in
       rw q
       (subst (λ (n : ℕ). Searched ss longer (clocksAfter (s .clocks) e) (offered-to) n) (sym counted)
       (matched longer [] (sym (append-nil longer)) long (count-starts dependent fits ss es e d m) (kept-after c k))))
-      (λ q. rw q (searching (arrived c .holds) (kept-after c k) (λ m. false≢true (sym (by-size ∙ q) ∙ found-match ss longer (offered-to) (kept-after c k) .1 m))))
+      (λ q. rw q (searching (arrived c .holds) (kept-after c k) (λ m. false≢true (sym (by-size ∙ q) ∙ found-match fits ss longer (offered-to) (kept-after c k) .1 m))))
     where
       by-size : foundIn (offered-to) (length ss) ≡ foundIn (offered-to) (s .pattern .size)
       by-size = ap (foundIn (offered-to)) (sym (ap (λ p. p .size) (h .pattern)))
@@ -203,7 +204,7 @@ verdict-described ss es s h = rw size-is (go (s .count) refl (h .search))
     go : (c : ℕ) → s .count ≡ c → Searched ss es (s .clocks) (s .table) c
         → VerdictOf ss es (foundIs (foundAt (s .count)) (numbersIn (s .table) (length ss)))
     go zero q (searching c k d) =
-        let n = found-numbers ss es (s .table) k in
+        let n = found-numbers fits ss es (s .table) k in
         rw (eq-eqb (s .count) 0 q)
         (record {
           matches = (λ t. absurd (false≢true t), λ m. absurd (d m));
@@ -213,7 +214,7 @@ verdict-described ss es s h = rw size-is (go (s .count) refl (h .search))
           beyond = n .beyond;
         })
     go (suc m) q (matched lead later p l c k) =
-        let n = found-numbers ss lead (s .table) k in
+        let n = found-numbers fits ss lead (s .table) k in
         let whole-lead : HasMatch ss lead = match-whole dependent fits ss lead (suc m) (count-match dependent fits c .0) in
         let there : HasMatch ss es = rw p (match-append dependent fits ss lead later whole-lead) in
         rw (ne-eqb (s .count) 0 (λ z. let f : ⊥ = omega arith in f), q)
@@ -253,5 +254,5 @@ pub no-row : (ss : List Slot) (es : List Event) (s : Session) → Describes ss e
 no-row ss es s d z = rw (ap (λ (p : Pattern). p .size) (d .pattern)) (go (d .search) z)
   where
     go : {n : ℕ} → Searched ss es (s .clocks) (s .table) n → n ≡ 0 → foundIn (s .table) (length ss) ≡ false
-    go (searching h k m) q = by-test (foundIn (s .table) (length ss)) (λ t. absurd (m (found-match ss es (s .table) k .0 t))) (λ t. t)
+    go (searching h k m) q = by-test (foundIn (s .table) (length ss)) (λ t. absurd (m (found-match fits ss es (s .table) k .0 t))) (λ t. t)
     go (matched lead later p l c k) q = absurd (let f : ⊥ = omega arith in f)

@@ -51,7 +51,8 @@ pub record EveryHistory (bytes : List ℕ) (opened : Opened) (events : List Even
   pub verdict : VerdictOf (slotsUsed (readPattern bytes)) (takenOf events) (saidAfter (opened .session) events)
   pub orders : (order : List Event) → Reaches (takenOf events) order → SameAnswer (slotsUsed (readPattern bytes)) (opened .session) events order
 
--- the same for runs: g is what a run gave that refused nothing; a run with the same pattern over the log of an order reached
+-- the same of the orders for runs, whose verdict `RunOf` says: g is what a run gave that refused nothing; a run with the same pattern over the log
+-- of an order reached
 pub record SameRun (pattern : List ℕ) (g : Given) (order : List Event) : Type 0 where
   pub reads-too : readLog (logBytes order) ≡ accepted order
   pub same : (h : Given) → RunOf pattern (logBytes order) h → (h .refused ≡ nothing) × (h .ruling .matches ≡ g .ruling .matches)

@@ -8,6 +8,7 @@ use lib.ListN.{length, getD, take, replicate}
 use Rattle.event.specs.declared.Event.{Event}
 use Rattle.event.specs.declared.Slot.{Slot}
 use Rattle.event.specs.Limits.{slots}
+use Rattle.event.specs.Slots.{fits}
 use Rattle.rules.specs.Accepted.{Accepted, takenAfter}
 use Rattle.rules.specs.State as rules
 use Rattle.log.specs.Whole.{GoodPattern, patternOf, accepted, refused, readLog, readPattern, outcomeOf, patternAnswerIs}
@@ -25,8 +26,8 @@ takenBy es e = reverse (takenAfter (reverse es) e)
 
 -- what is kept for the verdict: no match yet, and all is kept of the events; or the count, and what the table kept of the leading events
 pub data Searched (ss : List Slot) (es : List Event) (clocks table : List ℕ) : ℕ → Type 0 where
-  searching : clock.ClocksOf es clocks → Keeps ss es table → ¬ HasMatch ss es → Searched ss es clocks table 0
-  matched : {n : ℕ} (lead later : List Event) → es ≡ lead ++ later → length lead ≡ suc n → IsCount ss lead (suc n) → Keeps ss lead table
+  searching : clock.ClocksOf es clocks → Keeps fits ss es table → ¬ HasMatch ss es → Searched ss es clocks table 0
+  matched : {n : ℕ} (lead later : List Event) → es ≡ lead ++ later → length lead ≡ suc n → IsCount ss lead (suc n) → Keeps fits ss lead table
       → Searched ss es clocks table (suc n)
 
 -- "A session is described by its pattern and the events it has taken."

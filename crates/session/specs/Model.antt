@@ -29,7 +29,7 @@ abbrev pub slotsUsed : Whole Slot → List Slot
 slotsUsed (accepted ss) = ss
 slotsUsed (refused k o) = blank ∷ []
 
--- the pattern, or the lone slot where it has none
+-- the pattern, or its first place alone where it has no slot: after a refusal that place holds the lone slot
 abbrev pub orLone : Pattern → Pattern
 orLone p = cond (eqb (p .size) 0) (record { slots = p .slots; size = 1 }) p
 

@@ -14,7 +14,7 @@ use borrow.Author.Tests.{lt-ltb, le-leb}
 use Rattle.event.specs.declared.Event.{Event}
 use Rattle.event.specs.declared.Slot.{Slot}
 use Rattle.event.specs.Limits.{threads, slots}
-use Rattle.event.specs.Slots.{fits, noSlot, noEvent}
+use Rattle.event.specs.Slots.{noSlot, noEvent}
 use Rattle.event.proofs.Tests.{by-test}
 use Rattle.trace.proofs.Lists.{length-snoc, both-ways}
 use Rattle.trace.proofs.Numbers.{numbered-among, numbered-at}
@@ -22,7 +22,7 @@ use Rattle.clock.specs.declared.Stamp.{Stamp}
 use Rattle.table.specs.declared.Entry.{Entry}
 use Rattle.table.specs.Sets.{width, sets, size, spread}
 use Rattle.table.specs.Table.{limitsTo, limitsAfter, placeBy, sweptTo, slotOffered, offeredDown, offered}
-use Rattle.table.specs.Keeps.{setNumber, rowIn, Keeping, Keeps, Follows}
+use Rattle.table.specs.Keeps.{Fits, ByThread, setNumber, rowIn, Keeping, Keeps, Follows}
 use Rattle.table.proofs.SetLaws.{with-slot, all-spread}
 use Rattle.table.proofs.RowLaws.{Step}
 use Rattle.table.proofs.SweepLaws.{swept-length, swept-still, swept-step}
@@ -52,16 +52,16 @@ module _ (bs : List Bool) (k : ℕ) (low : k < length bs) where
       ap₂ (λ (m j : ℕ). m / 2 ^ j % 2) (ap setNumber (set-split bs k false low)) (sym front)
       ∙ number-bit (take k bs) false (drop (suc k) bs)
 
-module _ {ss : List Slot} {log : List Event} {acting : List ℕ} {marked : List Bool} {n : ℕ} {e : Event} {stamp : Stamp} {number : ℕ}
-    (ready : Ready ss log acting marked n e stamp number) where
+module _ {fits : Fits} {ss : List Slot} {log : List Event} {acting : List ℕ} {marked : List Bool} {n : ℕ} {e : Event} {stamp : Stamp} {number : ℕ}
+    (ready : Ready fits ss log acting marked n e stamp number) where
   abbrev longer : List Event
   longer = log ++ (e ∷ [])
 
   -- The slots from k on were offered the new event. A set one of whose slots it fits has its row with the new event; any other has its
   -- row without.
   data Mid (k : ℕ) (bs : List Bool) (r : ℕ → ℕ) : Type 0 where
-    met : (j : ℕ) → k ≤ j → getD bs j false ≡ true → fits (getD ss j noSlot) e ≡ true → Keeping ss longer bs r → Mid k bs r
-    unmet : ((j : ℕ) → k ≤ j → getD bs j false ≡ true → fits (getD ss j noSlot) e ≡ false) → Keeping ss log bs r → Mid k bs r
+    met : (j : ℕ) → k ≤ j → getD bs j false ≡ true → fits (getD ss j noSlot) e ≡ true → Keeping fits ss longer bs r → Mid k bs r
+    unmet : ((j : ℕ) → k ≤ j → getD bs j false ≡ true → fits (getD ss j noSlot) e ≡ false) → Keeping fits ss log bs r → Mid k bs r
 
   record State (k : ℕ) (table : List ℕ) : Type 0 where
     whole : length table ≡ size
@@ -170,12 +170,12 @@ module _ {ss : List Slot} {log : List Event} {acting : List ℕ} {marked : List 
   down-state (suc k) table l h =
       down-state k (slotOffered table acting marked (2 ^ n / 2) stamp (entry k l)) (omega arith) (slot-state k l table h)
 
-  pub follows-kept : (table : List ℕ) → Keeps ss log table → Keeps ss longer (offered table acting marked n (e .thread) stamp number)
+  pub follows-kept : (table : List ℕ) → Keeps fits ss log table → Keeps fits ss longer (offered table acting marked n (e .thread) stamp number)
   unfolding offered
   follows-kept table h =
       let p = ready .follows .size-is in
       rw (lt-ltb (e .thread) threads (ready .follows .thread-low), le-leb n slots (rw p (ready .short)))
-      (subst (λ (m : ℕ). Keeps ss longer (offeredDown m table acting marked n (e .thread) stamp number)) (sym p) all)
+      (subst (λ (m : ℕ). Keeps fits ss longer (offeredDown m table acting marked n (e .thread) stamp number)) (sym p) all)
     where
       start : State (length ss) table
       start =
@@ -187,11 +187,11 @@ module _ {ss : List Slot} {log : List Event} {acting : List ℕ} {marked : List 
       over : State 0 (offeredDown (length ss) table acting marked n (e .thread) stamp number)
       over = down-state (length ss) table (omega arith) start
 
-      last : (bs : List Bool) (r : ℕ → ℕ) → length bs ≡ length ss → Mid 0 bs r → Keeping ss longer bs r
+      last : (bs : List Bool) (r : ℕ → ℕ) → length bs ≡ length ss → Mid 0 bs r → Keeping fits ss longer bs r
       last bs r len (met j l t f k) = k
       last bs r len (unmet d k) = unfit ready bs r len (λ j t. d j (omega arith) t) k
 
-      all : Keeps ss longer (offeredDown (length ss) table acting marked n (e .thread) stamp number)
+      all : Keeps fits ss longer (offeredDown (length ss) table acting marked n (e .thread) stamp number)
       all =
           record {
             whole = over .whole;
@@ -202,6 +202,6 @@ module _ {ss : List Slot} {log : List Event} {acting : List ℕ} {marked : List 
           }
 
 -- the event that follows is offered
-pub offer-kept : (ss : List Slot) (log : List Event) (acting : List ℕ) (marked : List Bool) (n : ℕ) (e : Event) (stamp : Stamp) (number : ℕ) (table : List ℕ)
-    → Keeps ss log table → Follows ss log acting marked n e stamp number → Keeps ss (log ++ (e ∷ [])) (offered table acting marked n (e .thread) stamp number)
-offer-kept ss log acting marked n e stamp number table h f = follows-kept (record { follows = f; short = h .short; low = h .low }) table h
+pub offer-kept : (fits : Fits) → ByThread fits → (ss : List Slot) (log : List Event) (acting : List ℕ) (marked : List Bool) (n : ℕ) (e : Event) (stamp : Stamp) (number : ℕ) (table : List ℕ)
+    → Keeps fits ss log table → Follows fits ss log acting marked n e stamp number → Keeps fits ss (log ++ (e ∷ [])) (offered table acting marked n (e .thread) stamp number)
+offer-kept fits by ss log acting marked n e stamp number table h f = follows-kept (record { follows = f; by-thread = by; short = h .short; low = h .low }) table h

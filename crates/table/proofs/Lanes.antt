@@ -15,8 +15,7 @@ use borrow.Author.Tests.{lt-ltb, ltb-true, eq-eqb}
 use Rattle.event.specs.declared.Event.{Event}
 use Rattle.event.specs.declared.Slot.{Slot}
 use Rattle.event.specs.Limits.{threads, slots, events}
-use Rattle.event.specs.Slots.{fits, noSlot, noEvent}
-use Rattle.event.proofs.OneSlot.{fits-thread}
+use Rattle.event.specs.Slots.{noSlot, noEvent}
 use Rattle.event.proofs.Tests.{by-test}
 use Rattle.trace.specs.Before.{Numbered}
 use Rattle.trace.proofs.Lists.{length-snoc}
@@ -25,16 +24,16 @@ use Rattle.trace.proofs.Tallies.{one-more, tally}
 use Rattle.trace.proofs.Before.{before, before-dep, true-before}
 use Rattle.trace.proofs.Numbers.{eventAt, depAt, fitsAt, at-numbered, event-append, event-new}
 use Rattle.trace.proofs.GoodTuples.{Good}
-use Rattle.trace.proofs.Greatest.{Best, best}
+use Rattle.trace.proofs.Greatest.{LawL, Best, best}
 use Rattle.trace.proofs.Masks.{pick}
 use Rattle.trace.proofs.Stamps.{stamp as counted, place, threadAt, place-stamp, before-by-stamp, stampOf, stamp-unique}
 use Rattle.dependence.specs.Dependence.{dependent}
 use Rattle.dependence.specs.Order.{threadOf}
-use Rattle.dependence.proofs.Dependent.{one-thread, fit-one-slot}
+use Rattle.dependence.proofs.Dependent.{one-thread}
 use Rattle.clock.specs.declared.Stamp.{Stamp}
 use Rattle.table.specs.Sets.{lanes}
 use Rattle.table.specs.Table.{limitAt, limitsTo, placeBy}
-use Rattle.table.specs.Keeps.{placeIn, numbersOf, Follows}
+use Rattle.table.specs.Keeps.{Fits, ByThread, placeIn, numbersOf, Follows}
 use Rattle.table.proofs.RowLaws.{limits-beyond, limits-at}
 use Rattle.table.proofs.BitLaws.{bit-within, mem-pick, fitting-at, listed-length, listed-at}
 
@@ -71,13 +70,14 @@ module _ (dep : ℕ → ℕ → Bool) (fit : Slot → ℕ → Bool) (ss : List S
       (fitting-at fit bs ss (numbersOf (length ss) r) noSlot 0 (listed-length (length ss) (λ i. r (lanes + i))) (good .fit) j there j-low)
 
 -- an event follows those of the log, whose threads are within the limit, and so is the pattern's length
-pub record Ready (ss : List Slot) (log : List Event) (acting : List ℕ) (marked : List Bool) (n : ℕ) (e : Event) (stamp : Stamp) (number : ℕ) : Type 0 where
-  pub follows : Follows ss log acting marked n e stamp number
+pub record Ready (fits : Fits) (ss : List Slot) (log : List Event) (acting : List ℕ) (marked : List Bool) (n : ℕ) (e : Event) (stamp : Stamp) (number : ℕ) : Type 0 where
+  pub follows : Follows fits ss log acting marked n e stamp number
+  pub by-thread : ByThread fits
   pub short : length ss ≤ slots
   pub low : (i : ℕ) (a : Event) → Numbered log i a → a .thread < threads
 
-module _ {ss : List Slot} {log : List Event} {acting : List ℕ} {marked : List Bool} {n : ℕ} {e : Event} {stamp : Stamp} {number : ℕ}
-    (ready : Ready ss log acting marked n e stamp number) where
+module _ {fits : Fits} {ss : List Slot} {log : List Event} {acting : List ℕ} {marked : List Bool} {n : ℕ} {e : Event} {stamp : Stamp} {number : ℕ}
+    (ready : Ready fits ss log acting marked n e stamp number) where
   -- the list with the event that follows, and that event's number
   abbrev pub longer : List Event
   longer = log ++ (e ∷ [])
@@ -151,7 +151,7 @@ module _ {ss : List Slot} {log : List Event} {acting : List ℕ} {marked : List 
 
   -- its thread is the slot's
   pub slot-thread : {r : ℕ → ℕ} {j : ℕ} → InLane r j → getD ss j noSlot .thread ≡ thread (r (lanes + j))
-  slot-thread {r} {j} h = fits-thread (getD ss j noSlot) (eventAt noEvent longer (r (lanes + j))) (h .fit)
+  slot-thread {r} {j} h = ready .by-thread (getD ss j noSlot) (eventAt noEvent longer (r (lanes + j))) (h .fit)
 
   pub slot-low : {r : ℕ → ℕ} {j : ℕ} → InLane r j → getD ss j noSlot .thread < threads
   slot-low {r} {j} h = rw (slot-thread h) (low-longer (r (lanes + j)) (h .among))
@@ -164,12 +164,16 @@ module _ {ss : List Slot} {log : List Event} {acting : List ℕ} {marked : List 
       ∙ ap₂ leb (sym (h .at-place))
       (ap (λ (t : ℕ). stampOf noEvent dependent threadOf longer next t) (sym (slot-thread h)) ∙ stamp-at (getD ss j noSlot .thread) (slot-low h))
 
+  -- two events that fit one slot have its thread
+  pub law : LawL dependent fits
+  law s a b f g = one-thread a b (sym (ready .by-thread s a f) ∙ ready .by-thread s b g)
+
   -- where the new event fits the slot too, it does
   pub before-fitting : {r : ℕ → ℕ} {j : ℕ} → InLane r j → fits (getD ss j noSlot) e ≡ true → before depends (r (lanes + j)) next ≡ true
   before-fitting {r} {j} h f =
       true-before depends
       (before-dep depends (h .among .1)
-      (fit-one-slot (getD ss j noSlot) (eventAt noEvent longer (r (lanes + j))) (eventAt noEvent longer next) (h .fit)
+      (law (getD ss j noSlot) (eventAt noEvent longer (r (lanes + j))) (eventAt noEvent longer next) (h .fit)
       (ap (fits (getD ss j noSlot)) (event-new noEvent log e) ∙ f)))
 
   -- ---- limits

@@ -14,7 +14,7 @@ use borrow.Author.Tests.{le-leb, lt-leb}
 use Rattle.event.specs.declared.Event.{Event}
 use Rattle.event.specs.declared.Slot.{Slot}
 use Rattle.event.specs.Limits.{slots}
-use Rattle.event.specs.Slots.{fits, noSlot, noEvent}
+use Rattle.event.specs.Slots.{noSlot, noEvent}
 use Rattle.event.proofs.Tests.{by-test}
 use Rattle.trace.proofs.Lists.{length-snoc, both-ways}
 use Rattle.trace.proofs.Runs.{Among}
@@ -25,12 +25,11 @@ use Rattle.trace.proofs.Stamps.{place-append}
 use Rattle.trace.proofs.Arrivals.{arrives-unfit, arrives-none, arrives-joins, arrives-barred}
 use Rattle.dependence.specs.Dependence.{dependent}
 use Rattle.dependence.specs.Order.{threadOf}
-use Rattle.dependence.proofs.Dependent.{fit-one-slot}
 use Rattle.clock.specs.declared.Stamp.{Stamp}
 use Rattle.table.specs.declared.Entry.{Entry}
 use Rattle.table.specs.Sets.{lanes, width, held}
 use Rattle.table.specs.Table.{limitsTo, placeBy}
-use Rattle.table.specs.Keeps.{Greatest, placeIn, numbersOf, Filled, Keeping, kept, missing}
+use Rattle.table.specs.Keeps.{Fits, Greatest, placeIn, numbersOf, Filled, Keeping, kept, missing}
 use Rattle.table.proofs.RowLaws.{Step, no-row, no-room, joins}
 use Rattle.table.proofs.BitLaws.{bit-within, pick-mem, mem-pick, listed-length, listed-at, listed-same}
 use Rattle.table.proofs.Lanes as lanes-of
@@ -50,18 +49,18 @@ module _ (ss : List Slot) (short : length ss ≤ slots) (log : List Event) (bs :
   same-numbers : numbersOf (length ss) r ≡ numbersOf (length ss) r′
   same-numbers = listed-same (length ss) (λ j. r (lanes + j)) (λ j. r′ (lanes + j)) (λ j l. same (lanes + j) (omega arith))
 
-  pub keeping-same : Keeping ss log bs r → Keeping ss log bs r′
+  pub keeping-same : {fits : Fits} → Keeping fits ss log bs r → Keeping fits ss log bs r′
   keeping-same (missing h b) = missing (sym (same held (omega arith)) ∙ h) b
-  keeping-same (kept h b f) =
-      kept (sym (same held (omega arith)) ∙ h) (subst (λ (l : List ℕ). Greatest log (pick bs ss) (some (pick bs l))) same-numbers b)
+  keeping-same {fits} (kept h b f) =
+      kept (sym (same held (omega arith)) ∙ h) (subst (λ (l : List ℕ). Greatest fits log (pick bs ss) (some (pick bs l))) same-numbers b)
       (record {
         filled = λ j l t. let p = same j (omega arith) in let q = same (lanes + j) (omega arith) in rw (sym p, sym q) (f .filled j l t);
         no-place = λ j l t. sym (same j (omega arith)) ∙ f .no-place j l t;
         no-number = λ j l t. sym (same (lanes + j) (omega arith)) ∙ f .no-number j l t;
       })
 
-module _ {ss : List Slot} {log : List Event} {acting : List ℕ} {marked : List Bool} {n : ℕ} {e : Event} {stamp : Stamp} {number : ℕ}
-    (ready : Ready ss log acting marked n e stamp number) where
+module _ {fits : Fits} {ss : List Slot} {log : List Event} {acting : List ℕ} {marked : List Bool} {n : ℕ} {e : Event} {stamp : Stamp} {number : ℕ}
+    (ready : Ready fits ss log acting marked n e stamp number) where
   abbrev longer : List Event
   longer = lanes-of.longer ready
 
@@ -74,14 +73,14 @@ module _ {ss : List Slot} {log : List Event} {acting : List ℕ} {marked : List 
   Lane = InLane ready
 
   -- of the events before
-  old-among : (bs : List Bool) (r : ℕ → ℕ) → length bs ≡ length ss → Greatest log (pick bs ss) (some (pick bs (numbersOf (length ss) r)))
+  old-among : (bs : List Bool) (r : ℕ → ℕ) → length bs ≡ length ss → Greatest fits log (pick bs ss) (some (pick bs (numbersOf (length ss) r)))
       → (j : ℕ) → getD bs j false ≡ true → Among (length log) (r (lanes + j))
   old-among bs r len b j t = lane-among _ _ ss (length log) bs r (good-of b) len j t
 
   place-stays : (x : ℕ) → x ≤ length log → placeIn log x ≡ placeIn longer x
   place-stays x l = sym (place-append noEvent threadOf log (e ∷ []) x l)
 
-  lane-old : (bs : List Bool) (r : ℕ → ℕ) → length bs ≡ length ss → Greatest log (pick bs ss) (some (pick bs (numbersOf (length ss) r)))
+  lane-old : (bs : List Bool) (r : ℕ → ℕ) → length bs ≡ length ss → Greatest fits log (pick bs ss) (some (pick bs (numbersOf (length ss) r)))
       → Filled log bs r → (j : ℕ) → j < lanes → getD bs j false ≡ true → Lane r j
   lane-old bs r len b f j l t =
       let u = old-among bs r len b j t in
@@ -94,7 +93,7 @@ module _ {ss : List Slot} {log : List Event} {acting : List ℕ} {marked : List 
       }
 
   -- and of those with the new one
-  lane-new : (bs : List Bool) (r : ℕ → ℕ) → length bs ≡ length ss → Greatest longer (pick bs ss) (some (pick bs (numbersOf (length ss) r)))
+  lane-new : (bs : List Bool) (r : ℕ → ℕ) → length bs ≡ length ss → Greatest fits longer (pick bs ss) (some (pick bs (numbersOf (length ss) r)))
       → Filled longer bs r → (j : ℕ) → j < lanes → getD bs j false ≡ true → Lane r j
   lane-new bs r len b f j l t =
       let u : Among (length longer) (r (lanes + j)) = lane-among _ _ ss (length longer) bs r (good-of b) len j t in
@@ -109,8 +108,8 @@ module _ {ss : List Slot} {log : List Event} {acting : List ℕ} {marked : List 
   -- ---- a row that stays
 
   carry : (bs : List Bool) (r : ℕ → ℕ) → length bs ≡ length ss
-      → ((o : Option (List ℕ)) → Greatest log (pick bs ss) o → Greatest longer (pick bs ss) o)
-      → Keeping ss log bs r → Keeping ss longer bs r
+      → ((o : Option (List ℕ)) → Greatest fits log (pick bs ss) o → Greatest fits longer (pick bs ss) o)
+      → Keeping fits ss log bs r → Keeping fits ss longer bs r
   carry bs r len up (missing h b) = missing h (up none b)
   carry bs r len up (kept h b f) =
       kept h (up _ b)
@@ -122,7 +121,7 @@ module _ {ss : List Slot} {log : List Event} {acting : List ℕ} {marked : List 
 
   -- the new event fits no slot of the set
   pub unfit : (bs : List Bool) (r : ℕ → ℕ) → length bs ≡ length ss
-      → ((j : ℕ) → getD bs j false ≡ true → fits (getD ss j noSlot) e ≡ false) → Keeping ss log bs r → Keeping ss longer bs r
+      → ((j : ℕ) → getD bs j false ≡ true → fits (getD ss j noSlot) e ≡ false) → Keeping fits ss log bs r → Keeping fits ss longer bs r
   unfit bs r len d k = carry bs r len (λ o b. arrives-unfit noEvent dependent fits log e not-one b) k
     where
       not-one : (s : Slot) → Mem s (pick bs ss) → fits s e ≡ false
@@ -150,8 +149,8 @@ module _ {ss : List Slot} {log : List Event} {acting : List ℕ} {marked : List 
       less-bit j d = getD-set-other bs k j false false d
 
       -- where a later slot of the set was met, the row stays
-      pub stays : (j : ℕ) → k < j → getD bs j false ≡ true → fits (getD ss j noSlot) e ≡ true → Keeping ss longer less from
-          → Keeping ss longer bs to → Keeping ss longer bs new
+      pub stays : (j : ℕ) → k < j → getD bs j false ≡ true → fits (getD ss j noSlot) e ≡ true → Keeping fits ss longer less from
+          → Keeping fits ss longer bs to → Keeping fits ss longer bs new
       stays j l t f src tgt = go step
         where
           j-lane : j < lanes
@@ -160,14 +159,14 @@ module _ {ss : List Slot} {log : List Event} {acting : List ℕ} {marked : List 
           t′ : getD less j false ≡ true
           t′ = less-bit j (λ p. let z : ⊥ = omega arith in z) ∙ t
 
-          blocked : Keeping ss longer less from → (from held ≡ 0 → ⊥) → lanes-of.limit ready k j ≤ from j → ⊥
+          blocked : Keeping fits ss longer less from → (from held ≡ 0 → ⊥) → lanes-of.limit ready k j ≤ from j → ⊥
           blocked (missing h b) d u = d h
           blocked (kept h b g) d u =
               let x = lane-new less from less-length b g j j-lane t′ in
               let q = lanes-of.limit-is ready k j l (x .inside) (lanes-of.slot-low ready x) in
               both-ways (lanes-of.before-fitting ready x f) (lanes-of.before-lane ready x ∙ ap (leb (from j + 1)) (sym q) ∙ not-far (from j) (lanes-of.limit ready k j) u)
 
-          go : Step limits entry from to new → Keeping ss longer bs new
+          go : Step limits entry from to new → Keeping fits ss longer bs new
           go (no-row h s) = keeping-same ss (ready .short) longer bs (λ i u. sym (s i u)) tgt
           go (no-room i u r s) = keeping-same ss (ready .short) longer bs (λ i u. sym (s i u)) tgt
           go (joins d r a b s) = absurd (blocked src d (r j j-lane))
@@ -221,18 +220,18 @@ module _ {ss : List Slot} {log : List Event} {acting : List ℕ} {marked : List 
         without-k = ap₂ pick less-is ss-is
 
         -- no row for the set without k
-        none-there : Greatest log (pick less ss) none → Keeping ss log bs to → Keeping ss longer bs to
+        none-there : Greatest fits log (pick less ss) none → Keeping fits ss log bs to → Keeping fits ss longer bs to
         none-there b tgt =
             carry bs to len
             (λ o d.
-            subst (λ (l : List Slot). Greatest longer l o) (sym with-k)
-            (arrives-none noEvent dependent fits log e fit-one-slot b1 b2 p1 slot p2 eb new-fits no-later
-            (subst (λ (l : List Slot). Greatest log l none) without-k b)
-            (subst (λ (l : List Slot). Greatest log l o) with-k d)))
+            subst (λ (l : List Slot). Greatest fits longer l o) (sym with-k)
+            (arrives-none noEvent dependent fits log e (lanes-of.law ready) b1 b2 p1 slot p2 eb new-fits no-later
+            (subst (λ (l : List Slot). Greatest fits log l none) without-k b)
+            (subst (λ (l : List Slot). Greatest fits log l o) with-k d)))
             tgt
 
         -- a row for it
-        module _ (there : from held ≡ 1) (b : Greatest log (pick less ss) (some (pick less (numbersOf (length ss) from))))
+        module _ (there : from held ≡ 1) (b : Greatest fits log (pick less ss) (some (pick less (numbersOf (length ss) from))))
             (f : Filled log less from) where
           abbrev ns : List ℕ
           ns = numbersOf (length ss) from
@@ -252,10 +251,10 @@ module _ {ss : List Slot} {log : List Event} {acting : List ℕ} {marked : List 
           er : length r1 ≡ length p1
           er = length-take-le k ns (rw ns-length (omega arith)) ∙ sym (length-take-le k ss (omega arith))
 
-          kept-less : Greatest log (picked false) (some (pick (b1 ++ (false ∷ b2)) (r1 ++ (getD ns k 0 ∷ r2))))
+          kept-less : Greatest fits log (picked false) (some (pick (b1 ++ (false ∷ b2)) (r1 ++ (getD ns k 0 ∷ r2))))
           kept-less =
-              subst (λ (l : List ℕ). Greatest log (picked false) (some l)) (ap₂ pick less-is (split-at ns k 0 k-numbers))
-              (subst (λ (l : List Slot). Greatest log l (some (pick less ns))) without-k b)
+              subst (λ (l : List ℕ). Greatest fits log (picked false) (some l)) (ap₂ pick less-is (split-at ns k 0 k-numbers))
+              (subst (λ (l : List Slot). Greatest fits log l (some (pick less ns))) without-k b)
 
           -- the event of a later slot of the set
           later-lane : (j : ℕ) → k < j → getD bs j false ≡ true → Lane from j
@@ -271,14 +270,14 @@ module _ {ss : List Slot} {log : List Event} {acting : List ℕ} {marked : List 
               lanes-of.before-lane ready x ∙ ap (leb (from j + 1)) (sym (lanes-of.limit-is ready k j l (x .inside) (lanes-of.slot-low ready x)))
 
           -- one comes before the new event: the row stays
-          barred : (i : ℕ) → i < lanes → from i < lanes-of.limit ready k i → Keeping ss log bs to → Keeping ss longer bs to
+          barred : (i : ℕ) → i < lanes → from i < lanes-of.limit ready k i → Keeping fits ss log bs to → Keeping fits ss longer bs to
           barred i l r tgt =
               carry bs to len
               (λ o d.
-              subst (λ (l : List Slot). Greatest longer l o) (sym with-k)
-              (arrives-barred noEvent dependent fits log e fit-one-slot b1 b2 p1 slot p2 eb new-fits no-later r1 (getD ns k 0) r2 er kept-less
+              subst (λ (l : List Slot). Greatest fits longer l o) (sym with-k)
+              (arrives-barred noEvent dependent fits log e (lanes-of.law ready) b1 b2 p1 slot p2 eb new-fits no-later r1 (getD ns k 0) r2 er kept-less
               (from (lanes + i)) in-row (later-test i later bit ∙ as-far (from i) (lanes-of.limit ready k i) r)
-              (subst (λ (l : List Slot). Greatest log l o) with-k d)))
+              (subst (λ (l : List Slot). Greatest fits log l o) with-k d)))
               tgt
             where
               later : k < i
@@ -326,8 +325,8 @@ module _ {ss : List Slot} {log : List Event} {acting : List ℕ} {marked : List 
                 x .3 ∙ getD-drop (suc k) ns (x .0) 0 ∙ listed-at (length ss) (λ j. from (lanes + j)) j (omega arith) in
                 rw g (later-test j (omega arith) t ∙ not-far (from j) (lanes-of.limit ready k j) (room j (omega arith)))
 
-            withEntry : Greatest longer (picked true) (some (pick (b1 ++ (true ∷ b2)) (r1 ++ (next ∷ r2))))
-            withEntry = arrives-joins noEvent dependent fits log e fit-one-slot b1 b2 p1 slot p2 eb new-fits no-later r1 (getD ns k 0) r2 er kept-less free
+            withEntry : Greatest fits longer (picked true) (some (pick (b1 ++ (true ∷ b2)) (r1 ++ (next ∷ r2))))
+            withEntry = arrives-joins noEvent dependent fits log e (lanes-of.law ready) b1 b2 p1 slot p2 eb new-fits no-later r1 (getD ns k 0) r2 er kept-less free
 
             new-number : (j : ℕ) → j < lanes → (j ≡ k → ⊥) → new (lanes + j) ≡ from (lanes + j)
             new-number j l d =
@@ -365,13 +364,13 @@ module _ {ss : List Slot} {log : List Event} {acting : List ℕ} {marked : List 
             not-k : (j : ℕ) → getD bs j false ≡ false → j ≡ k → ⊥
             not-k j t p = both-ways has-k (rw p at t)
 
-            pub joined-row : Keeping ss longer bs new
+            pub joined-row : Keeping fits ss longer bs new
             joined-row =
                 let s = ready .short in
                 kept (others held (omega arith) (λ p. let z : ⊥ = omega arith in z) (λ p. let z : ⊥ = omega arith in z) ∙ there)
-                (subst (λ (l : List ℕ). Greatest longer (pick bs ss) (some (pick bs l))) (sym numbers-are)
-                (subst (λ (l : List Bool). Greatest longer (pick bs ss) (some (pick l (r1 ++ (next ∷ r2))))) (sym bs-is)
-                (subst (λ (l : List Slot). Greatest longer l (some (pick (b1 ++ (true ∷ b2)) (r1 ++ (next ∷ r2))))) (sym with-k) withEntry)))
+                (subst (λ (l : List ℕ). Greatest fits longer (pick bs ss) (some (pick bs l))) (sym numbers-are)
+                (subst (λ (l : List Bool). Greatest fits longer (pick bs ss) (some (pick l (r1 ++ (next ∷ r2))))) (sym bs-is)
+                (subst (λ (l : List Slot). Greatest fits longer l (some (pick (b1 ++ (true ∷ b2)) (r1 ++ (next ∷ r2))))) (sym with-k) withEntry)))
                 (record {
                   filled = λ j l t. filled-new j l t (ℕ-discrete j k);
                   no-place = λ j l t. let d = not-k j t in new-at j l d ∙ f .no-place j l (less-bit j d ∙ t);
@@ -379,16 +378,16 @@ module _ {ss : List Slot} {log : List Event} {acting : List ℕ} {marked : List 
                 })
 
         -- what becomes of the row
-        pub newly : Keeping ss log less from → Keeping ss log bs to → Keeping ss longer bs new
+        pub newly : Keeping fits ss log less from → Keeping fits ss log bs to → Keeping fits ss longer bs new
         newly src tgt = go step src
           where
-            same : ((j : ℕ) → j < width → new j ≡ to j) → Keeping ss longer bs to → Keeping ss longer bs new
+            same : ((j : ℕ) → j < width → new j ≡ to j) → Keeping fits ss longer bs to → Keeping fits ss longer bs new
             same s = keeping-same ss (ready .short) longer bs (λ i u. sym (s i u))
 
             clash : from held ≡ 0 → from held ≡ 1 → ⊥
             clash p q = omega arith
 
-            go : Step limits entry from to new → Keeping ss log less from → Keeping ss longer bs new
+            go : Step limits entry from to new → Keeping fits ss log less from → Keeping fits ss longer bs new
             go (no-row h s) (missing g b) = same s (none-there b tgt)
             go (no-row h s) (kept g b f) = absurd (clash h g)
             go (no-room i u r s) (missing g b) = same s (none-there b tgt)

@@ -16,7 +16,7 @@ use Rattle.trace.proofs.Greatest.{best-nil, best-cons}
 use Rattle.trace.proofs.Masks.{pick}
 use Rattle.table.specs.Sets.{lanes, width, held, size, absent}
 use Rattle.table.specs.Table.{emptyRow, freshTable}
-use Rattle.table.specs.Keeps.{setNumber, rowIn, numbersOf, Keeping, kept, missing, Keeps}
+use Rattle.table.specs.Keeps.{Fits, setNumber, rowIn, numbersOf, Keeping, kept, missing, Keeps}
 use Rattle.table.proofs.RowLaws.{pasted-length, pasted-outside, pasted-inside}
 
 pub getD-zeros : (n i : ℕ) → _≡_ {A = ℕ} (getD (replicate n 0) i 0) 0
@@ -71,10 +71,10 @@ other-row m j d =
     pasted-outside (replicate size 0) 0 emptyRow 0 width (m * width + j) (λ i l p. d (let z : m ≡ 0 = omega arith in z))
     ∙ getD-zeros size (m * width + j)
 
-module _ (ss : List Slot) (bs : List Bool) (len : length bs ≡ length ss) where
-  start-row : Dec (setNumber bs ≡ 0) → Keeping ss [] bs (rowIn freshTable (setNumber bs))
+module _ (fits : Fits) (ss : List Slot) (bs : List Bool) (len : length bs ≡ length ss) where
+  start-row : Dec (setNumber bs ≡ 0) → Keeping fits ss [] bs (rowIn freshTable (setNumber bs))
   start-row (yes p) =
-      subst (λ (m : ℕ). Keeping ss [] bs (rowIn freshTable m)) (sym p)
+      subst (λ (m : ℕ). Keeping fits ss [] bs (rowIn freshTable m)) (sym p)
       (kept (first-row held (omega arith))
       (rw (no-pick bs ss p, no-pick bs (numbersOf (length ss) (rowIn freshTable 0)) p) (best-nil _ _))
       (record {
@@ -86,12 +86,12 @@ module _ (ss : List Slot) (bs : List Bool) (len : length bs ≡ length ss) where
       let x = some-pick bs ss len d in
       missing (other-row (setNumber bs) held d) (rw (x .2) (best-cons _ _ (x .0) (x .1)))
 
-pub nothing-yet : (ss : List Slot) → length ss ≤ slots → Keeps ss [] freshTable
+pub nothing-yet : (fits : Fits) (ss : List Slot) → length ss ≤ slots → Keeps fits ss [] freshTable
 unfolding freshTable
-nothing-yet ss l =
+nothing-yet fits ss l =
     record {
       whole = pasted-length (replicate size 0) 0 emptyRow 0 width ∙ length-replicate {A = ℕ} size 0;
       short = l;
       low = λ i a x. absurd (let u = numbered-among x in let z : ⊥ = omega arith in z);
-      rows = λ bs len. start-row ss bs len (ℕ-discrete (setNumber bs) 0);
+      rows = λ bs len. start-row fits ss bs len (ℕ-discrete (setNumber bs) 0);
     }

@@ -15,21 +15,21 @@ use borrow.Author.Tests.{le-leb, leb-true}
 use Rattle.event.specs.declared.Event.{Event}
 use Rattle.event.specs.declared.Slot.{Slot}
 use Rattle.event.specs.Limits.{threads, slots}
-use Rattle.event.specs.Slots.{fits, noEvent}
+use Rattle.event.specs.Slots.{noEvent}
 use Rattle.event.proofs.Tests.{by-test}
 use Rattle.trace.proofs.Verdict.{Answers, match, no-match, best-answers}
 use Rattle.trace.proofs.Masks.{pick}
 use Rattle.dependence.specs.Dependence.{dependent}
-use Rattle.dependence.specs.Order.{HasMatch, Named}
+use Rattle.trace.specs.Match.{HasMatch, Named}
 use Rattle.clock.specs.declared.Stamp.{Stamp}
 use Rattle.table.specs.Sets.{lanes, held}
 use Rattle.table.specs.Table.{pasted, slotOffered, offeredDown, offered, lastRow, foundIn, numbersIn}
-use Rattle.table.specs.Keeps.{Greatest, rowIn, numbersOf, Keeping, kept, missing, Keeps, NumbersFound}
+use Rattle.table.specs.Keeps.{Fits, Greatest, rowIn, numbersOf, Keeping, kept, missing, Keeps, NumbersFound}
 use Rattle.table.proofs.RowLaws.{pasted-length, pasted-outside, pasted-inside}
 use Rattle.table.proofs.BitLaws.{number-all, pick-all, listed-length, listed-at}
 use Rattle.table.proofs.Start.{getD-zeros}
 
-module _ (ss : List Slot) (log : List Event) (table : List ℕ) (h : Keeps ss log table) where
+module _ (fits : Fits) (ss : List Slot) (log : List Event) (table : List ℕ) (h : Keeps fits ss log table) where
   abbrev d : ℕ
   d = length ss
 
@@ -37,9 +37,9 @@ module _ (ss : List Slot) (log : List Event) (table : List ℕ) (h : Keeps ss lo
   abbrev row : ℕ → ℕ
   row = rowIn table (2 ^ d - 1)
 
-  row-kept : Keeping ss log (replicate d true) row
+  row-kept : Keeping fits ss log (replicate d true) row
   row-kept =
-      subst (λ (m : ℕ). Keeping ss log (replicate d true) (rowIn table m)) (number-all d)
+      subst (λ (m : ℕ). Keeping fits ss log (replicate d true) (rowIn table m)) (number-all d)
       (h .rows (replicate d true) (length-replicate {A = Bool} d true))
 
   all-numbers : pick (replicate d true) (numbersOf d row) ≡ numbersOf d row
@@ -48,14 +48,14 @@ module _ (ss : List Slot) (log : List Event) (table : List ℕ) (h : Keeps ss lo
       (pick-all (numbersOf d row))
 
   pub data Verdict : Type 0 where
-    with-row : row held ≡ 1 → HasMatch ss log → Named ss log (length log) (numbersOf d row) → Verdict
-    with-none : row held ≡ 0 → ¬ HasMatch ss log → Verdict
+    with-row : row held ≡ 1 → HasMatch dependent fits ss log → Named dependent fits ss log (length log) (numbersOf d row) → Verdict
+    with-none : row held ≡ 0 → ¬ HasMatch dependent fits ss log → Verdict
 
   pub verdict : Verdict
   verdict = go row-kept
     where
-      answers : {o : Option (List ℕ)} → Greatest log (pick (replicate d true) ss) o → Answers dependent fits ss log o
-      answers {o} b = best-answers noEvent dependent fits ss log (subst (λ (l : List Slot). Greatest log l o) (pick-all ss) b)
+      answers : {o : Option (List ℕ)} → Greatest fits log (pick (replicate d true) ss) o → Answers dependent fits ss log o
+      answers {o} b = best-answers noEvent dependent fits ss log (subst (λ (l : List Slot). Greatest fits log l o) (pick-all ss) b)
 
       matched : row held ≡ 1 → Answers dependent fits ss log (some (numbersOf d row)) → Verdict
       matched r (match a b) = with-row r a b
@@ -63,16 +63,16 @@ module _ (ss : List Slot) (log : List Event) (table : List ℕ) (h : Keeps ss lo
       not-matched : row held ≡ 0 → Answers dependent fits ss log none → Verdict
       not-matched r (no-match a) = with-none r a
 
-      go : Keeping ss log (replicate d true) row → Verdict
+      go : Keeping fits ss log (replicate d true) row → Verdict
       go (kept r b f) = matched r (subst (λ (l : List ℕ). Answers dependent fits ss log (some l)) all-numbers (answers b))
       go (missing r b) = not-matched r (answers b)
 
-  found-by : Verdict → (foundIn table d ≡ true) ↔ HasMatch ss log
+  found-by : Verdict → (foundIn table d ≡ true) ↔ HasMatch dependent fits ss log
   unfolding foundIn
   found-by (with-row r a b) = (λ t. a, λ m. rw (le-leb d slots (h .short), r))
   found-by (with-none r a) = (λ t. absurd (false≢true (rw (le-leb d slots (h .short), r) at t)), λ m. absurd (a m))
 
-  pub found-match : (foundIn table d ≡ true) ↔ HasMatch ss log
+  pub found-match : (foundIn table d ≡ true) ↔ HasMatch dependent fits ss log
   found-match = found-by verdict
 
   -- the numbers that are read
@@ -109,7 +109,7 @@ module _ (ss : List Slot) (log : List Event) (table : List ℕ) (h : Keeps ss lo
   read-beyond j l =
       pasted-outside (replicate slots 0) 0 table (lastRow d + lanes) d j (λ i u p. let z : ⊥ = omega arith in z) ∙ getD-zeros slots j
 
-  pub found-numbers : NumbersFound ss log (numbersIn table d)
+  pub found-numbers : NumbersFound fits ss log (numbersIn table d)
   unfolding numbersIn read
   found-numbers =
       by-test (foundIn table d)
@@ -128,7 +128,7 @@ module _ (ss : List Slot) (log : List Event) (table : List ℕ) (h : Keeps ss lo
         beyond = λ j l. getD-zeros slots j;
       }))
     where
-      names : Verdict → HasMatch ss log → Named ss log (length log) (numbersOf d row)
+      names : Verdict → HasMatch dependent fits ss log → Named dependent fits ss log (length log) (numbersOf d row)
       names (with-row r a b) m = b
       names (with-none r a) m = absurd (a m)
 

@@ -12,11 +12,12 @@ ghost use Rattle.event.specs.declared.Slot.{Slot};
 ghost use Rattle.event.specs.Limits.{slots as slotLimit};
 ghost use Rattle.event.specs.Keys.{keyOf};
 ghost use Rattle.event.specs.Slots.{slotOf, fits, noSlot};
-ghost use Rattle.dependence.specs.Order.{HasMatch};
+ghost use Rattle.trace.specs.Match.{HasMatch};
+ghost use Rattle.dependence.specs.Dependence.{dependent};
 ghost use Rattle.table.specs.Sets.{sets, width, size as tableSize};
 ghost use Rattle.table.specs.Table.{pasted, rowAt, roomIn, limitAt, limitsAfter, withEntry, setOffered, sweptTo, offered, freshTable, lastRow, foundIn, numbersIn};
 ghost use Rattle.table.specs.Keys.{KeysOf, wantsTo};
-ghost use Rattle.table.specs.Keeps.{Keeps, Follows, NumbersFound};
+ghost use Rattle.table.specs.Keeps.{Fits, ByThread, Keeps, Follows, NumbersFound};
 
 // A row has the places of the slots, then their event numbers, and last whether there is a row.
 const LANES: usize = 8;
@@ -50,7 +51,7 @@ struct Entry {
 // The table of no events: the empty set has a row.
 pub fn fresh() -> [u16; TABLE]
     ensures exact { λ r. ⌜ r ≡ freshTable ⌝ }
-    ensures history { λ r. ⌜ ((ss : List Slot) → length ss ≤ slotLimit → Keeps ss [] r) ⌝ }
+    ensures history { λ r. ⌜ ((fits : Fits) (ss : List Slot) → length ss ≤ slotLimit → Keeps fits ss [] r) ⌝ }
 {
     let mut table = [0u16; TABLE];
     let none = Row {
@@ -119,7 +120,7 @@ pub fn offer(
     number: u16,
 )
     ensures exact { λ _. ⌜ now (table .exit) ≡ offered (now (table .entry)) acting fit size thread stamp number ⌝ }
-    ensures history { λ _. ⌜ ((ss : List Slot) (log : List Event) (e : Event) → thread ≡ e .thread → Keeps ss log (now (table .entry)) → Follows ss log acting fit size e stamp number → Keeps ss (log ++ (e ∷ [])) (now (table .exit))) ⌝ }
+    ensures history { λ _. ⌜ ((fits : Fits) → ByThread fits → (ss : List Slot) (log : List Event) (e : Event) → thread ≡ e .thread → Keeps fits ss log (now (table .entry)) → Follows fits ss log acting fit size e stamp number → Keeps fits ss (log ++ (e ∷ [])) (now (table .exit))) ⌝ }
 {
     let t = thread as usize;
     if t >= clock::THREADS {
@@ -264,7 +265,7 @@ fn room(r: Row, limits: Limits) -> bool
 // Whether the set of all slots has a row; no for a pattern of too many slots.
 pub fn found(table: &[u16; TABLE], size: usize) -> bool
     ensures exact { λ r. ⌜ r ≡ foundIn (now (table .entry)) size ⌝ }
-    ensures history { λ r. ⌜ ((ss : List Slot) (log : List Event) → Keeps ss log (now (table .entry)) → size ≡ length ss → (r ≡ true) ↔ HasMatch ss log) ⌝ }
+    ensures history { λ r. ⌜ ((fits : Fits) (ss : List Slot) (log : List Event) → Keeps fits ss log (now (table .entry)) → size ≡ length ss → (r ≡ true) ↔ HasMatch dependent fits ss log) ⌝ }
 {
     if size > event::SLOTS {
         return false;
@@ -291,7 +292,7 @@ fn last_row(size: usize) -> usize
 // The event numbers of that row in the slots' order; 0 beyond the slots, and where there is no row.
 pub fn numbers(table: &[u16; TABLE], size: usize) -> [u16; event::SLOTS]
     ensures exact { λ r. ⌜ r ≡ numbersIn (now (table .entry)) size ⌝ }
-    ensures history { λ r. ⌜ ((ss : List Slot) (log : List Event) → Keeps ss log (now (table .entry)) → size ≡ length ss → NumbersFound ss log r) ⌝ }
+    ensures history { λ r. ⌜ ((fits : Fits) (ss : List Slot) (log : List Event) → Keeps fits ss log (now (table .entry)) → size ≡ length ss → NumbersFound fits ss log r) ⌝ }
 {
     if !found(table, size) {
         return [0; event::SLOTS];

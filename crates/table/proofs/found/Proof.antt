@@ -8,8 +8,9 @@ use mathlib.Core.List.{List}
 use lib.ListN.{length}
 use Rattle.event.specs.declared.Slot.{Slot}
 use Rattle.event.specs.declared.Event.{Event}
-use Rattle.dependence.specs.Order.{HasMatch}
-use Rattle.table.specs.Keeps.{Keeps}
+use Rattle.trace.specs.Match.{HasMatch}
+use Rattle.dependence.specs.Dependence.{dependent}
+use Rattle.table.specs.Keeps.{Fits, Keeps}
 use Rattle.table.proofs.Verdict.{found-match}
 use borrow.Author.Needs.{needs}
 use Rattle.table.proofs.found.Statement.{statement}
@@ -18,8 +19,8 @@ use Rattle.table.proofs.found.Tie as tie
 -- the history follows from the exact clause
 both : (n : ℕ) (table : List ℕ) (r : Bool) → r ≡ foundIn table n
     → (r ≡ foundIn table n)
-    × ((ss : List Slot) (log : List Event) → Keeps ss log table → n ≡ length ss → (r ≡ true) ↔ HasMatch ss log)
-both n table r p = (p, λ ss log h q. rw (p, q) (found-match ss log table h))
+    × ((fits : Fits) (ss : List Slot) (log : List Event) → Keeps fits ss log table → n ≡ length ss → (r ≡ true) ↔ HasMatch dependent fits ss log)
+both n table r p = (p, λ fits ss log h q. rw (p, q) (found-match fits ss log table h))
 
 returns : tie.Need-returns
 unfolding foundIn

@@ -10,7 +10,7 @@ store-requires c κs = search needs
 
 returns : tie.Need-returns
 unfolding freshTable
-returns c = let p : c .store .last .0 ≡ freshTable = c .store .ensures in (p, λ ss l. rw p (nothing-yet ss l))
+returns c = let p : c .store .last .0 ≡ freshTable = c .store .ensures in (p, λ fits ss l. rw p (nothing-yet fits ss l))
 
 pub fresh-spec : {M : Type 1} → statement M
 fresh-spec = tie.close (tie.spec store-requires returns)

@@ -13,7 +13,7 @@ use mathlib.Core.List.{List}
 use lib.ListN.{length}
 use Rattle.event.specs.declared.Slot.{Slot}
 use Rattle.event.specs.declared.Event.{Event}
-use Rattle.table.specs.Keeps.{Keeps, NumbersFound}
+use Rattle.table.specs.Keeps.{Fits, Keeps, NumbersFound}
 use Rattle.table.proofs.Verdict.{found-numbers}
 use borrow.Author.Needs.{needs}
 use Rattle.table.proofs.numbers.Statement.{statement}
@@ -21,8 +21,8 @@ use Rattle.table.proofs.numbers.Tie as tie
 
 -- the history follows from the exact clause
 both : (n : ℕ) (table r : List ℕ) → r ≡ numbersIn table n
-    → (r ≡ numbersIn table n) × ((ss : List Slot) (log : List Event) → Keeps ss log table → n ≡ length ss → NumbersFound ss log r)
-both n table r p = (p, λ ss log h q. rw (p, q) (found-numbers ss log table h))
+    → (r ≡ numbersIn table n) × ((fits : Fits) (ss : List Slot) (log : List Event) → Keeps fits ss log table → n ≡ length ss → NumbersFound fits ss log r)
+both n table r p = (p, λ fits ss log h q. rw (p, q) (found-numbers fits ss log table h))
 
 abbrev Inv-loop : tie.InvT-loop
 Inv-loop table size last r₀ j₀ r j = (j ≤ size) × (size ≤ slotLimit) × (last + width ≤ tableSize) × (r ≡ pasted j r₀ 0 table (last + lanes))

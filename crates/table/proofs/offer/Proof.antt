@@ -11,7 +11,7 @@ use Rattle.event.specs.declared.Event.{Event}
 use Rattle.clock.specs.declared.Stamp.{Stamp}
 use Rattle.table.specs.declared.Limits.{Limits}
 use Rattle.table.specs.Table.{limitsAfter, placeBy, sweptTo, slotOffered, offeredDown, offered}
-use Rattle.table.specs.Keeps.{Keeps, Follows}
+use Rattle.table.specs.Keeps.{Fits, ByThread, Keeps, Follows}
 use Rattle.table.proofs.SetLaws.{powers}
 use Rattle.table.proofs.History.{offer-kept}
 use borrow.Author.Needs.{needs}
@@ -44,9 +44,9 @@ module _ (acting : List ℕ) (fit : List Bool) (n t : ℕ) (stamp : Stamp) (numb
   -- the history follows from the exact clause
   both : (table out : List ℕ) → out ≡ offered table acting fit n t stamp number
       → (out ≡ offered table acting fit n t stamp number)
-      × ((ss : List Slot) (log : List Event) (e : Event) → t ≡ e .thread → Keeps ss log table → Follows ss log acting fit n e stamp number
-      → Keeps ss (log ++ (e ∷ [])) out)
-  both table out p = (p, λ ss log e q h f. rw (p, q) (offer-kept ss log acting fit n e stamp number table h f))
+      × ((fits : Fits) → ByThread fits → (ss : List Slot) (log : List Event) (e : Event) → t ≡ e .thread → Keeps fits ss log table → Follows fits ss log acting fit n e stamp number
+      → Keeps fits ss (log ++ (e ∷ [])) out)
+  both table out p = (p, λ fits by ss log e q h f. rw (p, q) (offer-kept fits by ss log acting fit n e stamp number table h f))
 
 abbrev Inv-loop : tie.InvT-loop
 Inv-loop table₀ acting size thread number fit stamp t place half k₀ table k =
