@@ -10,10 +10,10 @@ use native.Mathlib.Decide.{decLe}
 use native.Mathlib.Omega.{arith}
 use lib.ListN.{length}
 use Rattle.event.specs.declared.Event.{Event}
+use Rattle.trace.specs.Tuples.{eventAt, Among, one-more, tally}
 use Rattle.trace.proofs.Lists.{true-or-false}
-use Rattle.trace.proofs.Runs.{Among}
-use Rattle.trace.proofs.Numbers.{eventAt, numbered-among, numbered-at, at-numbered}
-use Rattle.trace.proofs.Tallies.{one-more, tally, highest, highest-le, highest-ge}
+use Rattle.trace.proofs.Numbers.{numbered-among, numbered-at, at-numbered}
+use Rattle.trace.proofs.Tallies.{highest, highest-le, highest-ge}
 use Rattle.trace.proofs.Stamps.{stamp, stampOf, stamp-is, stamp-unique}
 use Rattle.trace.proofs.Channels.{clock}
 use Rattle.dependence.specs.Dependence.{dependent}

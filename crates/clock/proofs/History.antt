@@ -15,8 +15,9 @@ use Rattle.event.specs.Limits.{threads, events}
 use Rattle.event.specs.Slots.{slotOf}
 use Rattle.event.specs.Range.{rangeRefusal}
 use Rattle.event.proofs.InRange.{in-range}
+use Rattle.trace.specs.Tuples.{one-more}
 use Rattle.trace.proofs.Lists.{length-snoc}
-use Rattle.trace.proofs.Tallies.{one-more, raise, join}
+use Rattle.trace.proofs.Tallies.{raise, join}
 use Rattle.trace.proofs.Numbers.{numbered-among}
 use Rattle.trace.proofs.Stamps.{stamp-is}
 use Rattle.trace.proofs.Channels.{next-stamp, stamp-snoc, clock-snoc}

@@ -13,7 +13,7 @@ use Rattle.log.specs.Whole.{accepted, readLog}
 use Rattle.log.proofs.Numbering.{numbered-event}
 use Rattle.trace.specs.Before.{Numbered}
 use Rattle.trace.specs.Match.{Each, none, more}
-use Rattle.trace.proofs.Runs.{Among}
+use Rattle.trace.specs.Tuples.{Among}
 use Rattle.trace.proofs.Numbers.{numbered-among}
 use Rattle.dependence.specs.Order.{HasMatch}
 use Rattle.run.specs.declared.Judged.{Judged}

@@ -14,7 +14,8 @@ use Rattle.event.proofs.Tests.{by-test}
 use Rattle.event.specs.declared.Event.{Event}
 use Rattle.event.specs.Limits.{threads}
 use Rattle.trace.specs.Before.{Numbered, same, chain}
-use Rattle.trace.proofs.Numbers.{numbered-among, numbered-append, numbered-shrink, eventAt, numbered-at, at-numbered, event-new, comes-shrink}
+use Rattle.trace.specs.Tuples.{eventAt}
+use Rattle.trace.proofs.Numbers.{numbered-among, numbered-append, numbered-shrink, numbered-at, at-numbered, event-new, comes-shrink}
 use Rattle.trace.proofs.Stamps.{stamp-append, stamp-is, stamp-unique, comes-by-stamp}
 use Rattle.dependence.specs.Dependence.{dependent}
 use Rattle.dependence.specs.Order.{ComesBefore, IsStamp, threadOf}

@@ -9,8 +9,7 @@ use native.Mathlib.Omega.{arith}
 use lib.ListN.{length, getD, replicate}
 use lib.Pow.{high, pow-pos}
 use Rattle.trace.specs.Match.{Each}
-use Rattle.trace.proofs.Rows.{Fitting}
-use Rattle.trace.proofs.Masks.{pick}
+use Rattle.trace.specs.Tuples.{Fitting, pick}
 use Rattle.table.specs.Keeps.{setNumber, listed}
 
 -- ---- numbers of sets

@@ -18,15 +18,12 @@ use Rattle.event.specs.Limits.{threads, slots, events}
 use Rattle.event.specs.Slots.{noSlot, noEvent}
 use Rattle.event.proofs.Tests.{by-test}
 use Rattle.trace.specs.Before.{Numbered}
+use Rattle.trace.specs.Tuples.{eventAt, depAt, fitsAt, threadAt, Among, Good, Best, best, pick, one-more, tally, place}
 use Rattle.trace.proofs.Lists.{length-snoc}
-use Rattle.trace.proofs.Runs.{Among}
-use Rattle.trace.proofs.Tallies.{one-more, tally}
 use Rattle.trace.proofs.Before.{before, before-dep, true-before}
-use Rattle.trace.proofs.Numbers.{eventAt, depAt, fitsAt, at-numbered, event-append, event-new}
-use Rattle.trace.proofs.GoodTuples.{Good}
-use Rattle.trace.proofs.Greatest.{LawL, Best, best}
-use Rattle.trace.proofs.Masks.{pick}
-use Rattle.trace.proofs.Stamps.{stamp as counted, place, threadAt, place-stamp, before-by-stamp, stampOf, stamp-unique}
+use Rattle.trace.proofs.Numbers.{at-numbered, event-append, event-new}
+use Rattle.trace.proofs.Greatest.{LawL}
+use Rattle.trace.proofs.Stamps.{stamp as counted, place-stamp, before-by-stamp, stampOf, stamp-unique}
 use Rattle.dependence.specs.Dependence.{dependent}
 use Rattle.dependence.specs.Order.{threadOf}
 use Rattle.dependence.proofs.Dependent.{one-thread}

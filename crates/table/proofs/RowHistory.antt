@@ -16,11 +16,10 @@ use Rattle.event.specs.declared.Slot.{Slot}
 use Rattle.event.specs.Limits.{slots}
 use Rattle.event.specs.Slots.{noSlot, noEvent}
 use Rattle.event.proofs.Tests.{by-test}
+use Rattle.trace.specs.Tuples.{Among, pick}
 use Rattle.trace.proofs.Lists.{length-snoc, both-ways}
-use Rattle.trace.proofs.Runs.{Among}
 use Rattle.trace.proofs.Before.{before}
 use Rattle.trace.proofs.Greatest.{best-append}
-use Rattle.trace.proofs.Masks.{pick}
 use Rattle.trace.proofs.Stamps.{place-append}
 use Rattle.trace.proofs.Arrivals.{arrives-unfit, arrives-none, arrives-joins, arrives-barred}
 use Rattle.dependence.specs.Dependence.{dependent}

@@ -10,10 +10,10 @@ use lib.ListN.{length, getD, replicate, length-replicate, getD-replicate, List·
 use lib.Seq.{getD-append-add}
 use Rattle.event.specs.declared.Slot.{Slot}
 use Rattle.event.specs.Limits.{slots}
+use Rattle.trace.specs.Tuples.{pick}
 use Rattle.trace.proofs.Lists.{both-ways}
 use Rattle.trace.proofs.Numbers.{numbered-among}
 use Rattle.trace.proofs.Greatest.{best-nil, best-cons}
-use Rattle.trace.proofs.Masks.{pick}
 use Rattle.table.specs.Sets.{lanes, width, held, size, absent}
 use Rattle.table.specs.Table.{emptyRow, freshTable}
 use Rattle.table.specs.Keeps.{Fits, setNumber, rowIn, numbersOf, Keeping, kept, missing, Keeps}

@@ -17,8 +17,8 @@ use Rattle.event.specs.declared.Slot.{Slot}
 use Rattle.event.specs.Limits.{threads, slots}
 use Rattle.event.specs.Slots.{noEvent}
 use Rattle.event.proofs.Tests.{by-test}
+use Rattle.trace.specs.Tuples.{pick}
 use Rattle.trace.proofs.Verdict.{Answers, match, no-match, best-answers}
-use Rattle.trace.proofs.Masks.{pick}
 use Rattle.dependence.specs.Dependence.{dependent}
 use Rattle.trace.specs.Match.{HasMatch, Named}
 use Rattle.clock.specs.declared.Stamp.{Stamp}

@@ -11,9 +11,7 @@ use Rattle.event.specs.declared.Slot.{Slot}
 use Rattle.event.specs.Limits.{threads, slots, events}
 use Rattle.event.specs.Slots.{noSlot, noEvent}
 use Rattle.trace.specs.Before.{Numbered}
-use Rattle.trace.proofs.Greatest.{BestOf}
-use Rattle.trace.proofs.Masks.{pick}
-use Rattle.trace.proofs.Stamps.{place, threadAt}
+use Rattle.trace.specs.Tuples.{threadAt, BestOf, pick, place}
 use Rattle.dependence.specs.Dependence.{dependent}
 use Rattle.trace.specs.Match.{HasMatch, Named}
 use Rattle.dependence.specs.Order.{threadOf}

@@ -6,11 +6,12 @@ use mathlib.Core.List.{List, [], _∷_, _++_, List·Memᴰ as Mem}
 use mathlib.Core.Option.{Option, some, none}
 use Prim.Native.Nat.{ℕ, suc}
 use lib.ListN.{length}
+use Rattle.trace.specs.Tuples.{depAt, fitsAt, Best, BestOf, pick}
 use Rattle.trace.proofs.Lists.{length-snoc}
 use Rattle.trace.proofs.Before.{before, before-true, before-false}
-use Rattle.trace.proofs.Numbers.{depAt, fitsAt, event-new}
-use Rattle.trace.proofs.Greatest.{LawL, Best, BestOf, best-append, law-at, fits-none}
-use Rattle.trace.proofs.Masks.{pick, mask-none, mask-joins, mask-barred}
+use Rattle.trace.proofs.Numbers.{event-new}
+use Rattle.trace.proofs.Greatest.{LawL, best-append, law-at, fits-none}
+use Rattle.trace.proofs.Masks.{mask-none, mask-joins, mask-barred}
 
 module _ {E S : Type 0} (other : E) (dep : E → E → Bool) (fits : S → E → Bool) (log : List E) (e : E) where
   -- the list with the event that arrives

@@ -7,12 +7,12 @@ use mathlib.Core.List.{List, [], _∷_, _++_}
 use Prim.Native.Nat.{ℕ, zero, suc}
 use lib.Dec.{eqb, leb}
 use lib.ListN.{length}
+use Rattle.trace.specs.Tuples.{eventAt, depAt, threadAt, Among, one-more, place}
 use Rattle.trace.proofs.Lists.{any, length-snoc}
-use Rattle.trace.proofs.Runs.{Among}
 use Rattle.trace.proofs.Before.{before}
-use Rattle.trace.proofs.Tallies.{one-more, raise, highest, highest-same, highest-any, join}
-use Rattle.trace.proofs.Numbers.{eventAt, depAt, event-append, event-new}
-use Rattle.trace.proofs.Stamps.{place, threadAt, stampOf, stamp-append, place-append, place-stamp, before-by-stamp}
+use Rattle.trace.proofs.Tallies.{raise, highest, highest-same, highest-any, join}
+use Rattle.trace.proofs.Numbers.{event-append, event-new}
+use Rattle.trace.proofs.Stamps.{stampOf, stamp-append, place-append, place-stamp, before-by-stamp}
 use Rattle.trace.proofs.Clocks.{stamp-new}
 
 module _ {E : Type 0} (other : E) (dep : E → E → Bool) (thread : E → ℕ) where

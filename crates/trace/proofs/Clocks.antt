@@ -8,10 +8,10 @@ use native.Mathlib.Nat.{le-trans, le-antisymm}
 use native.Mathlib.Omega.{arith}
 use lib.Dec.{eqb}
 use borrow.Author.Tests.{eqb-true, eq-eqb}
-use Rattle.trace.proofs.Runs.{Among}
-use Rattle.trace.proofs.Before.{Before, same, before-le, before-one, before-dep, before-trans, before-cases, before}
+use Rattle.trace.specs.Tuples.{Among, Before, same, one-more, tally}
+use Rattle.trace.proofs.Before.{before-le, before-one, before-dep, before-trans, before-cases, before}
 use Rattle.trace.proofs.Before.{before-true, true-before}
-use Rattle.trace.proofs.Tallies.{one-more, tally, tally-within, last-of, highest, highest-le, highest-ge}
+use Rattle.trace.proofs.Tallies.{tally-within, last-of, highest, highest-le, highest-ge}
 use Rattle.trace.proofs.Stamps.{stamp}
 
 module _ (dep : ℕ → ℕ → Bool) (thread : ℕ → ℕ) (one-thread : (i j : ℕ) → thread i ≡ thread j → dep i j ≡ true) (n t : ℕ) where

@@ -12,8 +12,8 @@ use lib.ListN.{length, take, length-append}
 use lib.Seq.{take-append-le, take-length, take-all}
 use Rattle.trace.specs.Match.{Holds, HasMatch, IsCount, smallest, without}
 use Rattle.trace.specs.Swaps.{stay}
+use Rattle.trace.specs.Tuples.{depAt, fitsAt}
 use Rattle.trace.proofs.Lists.{true-or-false, both-ways, length-snoc}
-use Rattle.trace.proofs.Numbers.{depAt, fitsAt}
 use Rattle.trace.proofs.Matches.{match-good, empty-match, match-whole}
 use Rattle.trace.proofs.Search.{found, found-iff}
 

@@ -12,12 +12,12 @@ use lib.ListN.{length}
 use Rattle.trace.specs.Swaps.{Reaches, stay}
 use Rattle.trace.specs.Before.{Numbered, ComesBefore}
 use Rattle.trace.specs.Match.{Each, Pairs}
+use Rattle.trace.specs.Tuples.{eventAt, depAt, Among, Apart}
 use Rattle.trace.proofs.Rows.{pairs-map}
 use Rattle.trace.proofs.Swaps.{perm-mem, reaches-mem⁻, map-reaches, lift-reaches}
-use Rattle.trace.proofs.Runs.{run, Among, among-of}
-use Rattle.trace.proofs.Before.{Apart}
+use Rattle.trace.proofs.Runs.{run, among-of}
 use Rattle.trace.proofs.Orders.{reaches-iff}
-use Rattle.trace.proofs.Numbers.{numbered-among, eventAt, numbered-at, at-numbered, run-events, depAt, comes-before}
+use Rattle.trace.proofs.Numbers.{numbered-among, numbered-at, at-numbered, run-events, comes-before}
 use Rattle.trace.proofs.Numbers.{before-comes}
 
 module _ {E : Type 0} (dep : E → E → Bool) (log : List E) where

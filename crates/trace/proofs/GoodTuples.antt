@@ -11,13 +11,14 @@ use lib.Dec.{leb}
 use borrow.Author.Tests.{leb-true, le-leb, not-true}
 use Rattle.trace.specs.Swaps.{Reaches, stay}
 use Rattle.trace.specs.Match.{HasMatch, Each, Pairs}
+use Rattle.trace.specs.Tuples.{Among, Before, same, Apart, Fitting, Good}
 use Rattle.trace.proofs.Lists.{failed, filter, mem-filter, any, any-false, any-none}
-use Rattle.trace.proofs.Rows.{Fitting, pairs-head, pairs-tail, pairs-map, pairs-filter, each-map}
+use Rattle.trace.proofs.Rows.{pairs-head, pairs-tail, pairs-map, pairs-filter, each-map}
 use Rattle.trace.proofs.Holds.{sublist-mem, sublist-pairs, sublist-join, holds-pick, holds-of}
 use Rattle.trace.proofs.Swaps.{reaches-trans, reaches-behind, reaches-mem⁻, to-front}
-use Rattle.trace.proofs.Runs.{run, Among, among-of, of-among, run-rises}
-use Rattle.trace.proofs.Before.{Before, same, before-trans, before-one, before, before-true, true-before, before-false}
-use Rattle.trace.proofs.Before.{false-before, Apart, Agree, agree-back, before-carry}
+use Rattle.trace.proofs.Runs.{run, among-of, of-among, run-rises}
+use Rattle.trace.proofs.Before.{before-trans, before-one, before, before-true, true-before, before-false}
+use Rattle.trace.proofs.Before.{false-before, Agree, agree-back, before-carry}
 use Rattle.trace.proofs.Orders.{reaches-apart}
 
 module _ (dep : ℕ → ℕ → Bool) where
@@ -56,17 +57,11 @@ module _ (dep : ℕ → ℕ → Bool) where
   before-none e es d = any-none (λ x. before dep x e) es (λ x m t. d x m (before-true dep x e t))
 
   module _ {S : Type 0} (fits : S → ℕ → Bool) where
-    -- an event for each slot, fitting it, among the first n; no later slot's event comes before an earlier slot's or is it
-    pub record Good (ss : List S) (n : ℕ) (es : List ℕ) : Type 0 where
-      pub fit : Fitting fits ss es
-      pub apart : Apart dep es
-      pub among : (e : ℕ) → Mem e es → Among n e
-
     -- Of the recorded order of n events: some order reached holds the pattern exactly where there is a good tuple.
-    pub good-iff : (ss : List S) (n : ℕ) → HasMatch dep fits ss (run 1 n) ↔ ((es : List ℕ) × Good ss n es)
+    pub good-iff : (ss : List S) (n : ℕ) → HasMatch dep fits ss (run 1 n) ↔ ((es : List ℕ) × Good dep fits ss n es)
     good-iff ss n = (there, back)
       where
-        there : HasMatch dep fits ss (run 1 n) → (es : List ℕ) × Good ss n es
+        there : HasMatch dep fits ss (run 1 n) → (es : List ℕ) × Good dep fits ss n es
         there h =
             let r = holds-pick fits (h .2) in (
               r .0,
@@ -77,7 +72,7 @@ module _ (dep : ℕ → ℕ → Bool) where
               },
             )
 
-        back : (es : List ℕ) × Good ss n es → HasMatch dep fits ss (run 1 n)
+        back : (es : List ℕ) × Good dep fits ss n es → HasMatch dep fits ss (run 1 n)
         back h = (
           arrange (h .0) (run 1 n),
           arrange-reached (h .0) (run 1 n) (run-rises 1 n),
@@ -85,11 +80,11 @@ module _ (dep : ℕ → ℕ → Bool) where
         )
 
     -- good tuples are built slot by slot
-    pub good-nil : (n : ℕ) → Good [] n []
+    pub good-nil : (n : ℕ) → Good dep fits [] n []
     good-nil n = record { fit = Each.none; apart = Pairs.none; among = λ e m. absurd (not-mem-nil m) }
 
     pub good-cons : (s : S) (ss : List S) (n e : ℕ) (es : List ℕ) → fits s e ≡ true → Among n e
-        → ((x : ℕ) → Mem x es → ¬ Before dep x e) → Good ss n es → Good (s ∷ ss) n (e ∷ es)
+        → ((x : ℕ) → Mem x es → ¬ Before dep x e) → Good dep fits ss n es → Good dep fits (s ∷ ss) n (e ∷ es)
     good-cons s ss n e es f r d h = record { fit = Each.more f (h .fit); apart = Pairs.more d (h .apart); among = among }
       where
         among : (x : ℕ) → Mem x (e ∷ es) → Among n x
@@ -103,7 +98,7 @@ module _ (dep : ℕ → ℕ → Bool) where
     good? n (s ∷ ss) [] = false
     good? n (s ∷ ss) (e ∷ es) = (leb 1 e && leb e n) && fits s e && not (any (λ x. before dep x e) es) && good? n ss es
 
-    true-good : (n : ℕ) (ss : List S) (es : List ℕ) → good? n ss es ≡ true → Good ss n es
+    true-good : (n : ℕ) (ss : List S) (es : List ℕ) → good? n ss es ≡ true → Good dep fits ss n es
     true-good n [] [] h = good-nil n
     true-good n [] (e ∷ es) h = absurd (false≢true h)
     true-good n (s ∷ ss) [] h = absurd (false≢true h)
@@ -123,7 +118,7 @@ module _ (dep : ℕ → ℕ → Bool) where
         rw (le-leb 1 e (r .0), le-leb e n (r .1), f, before-none e es (pairs-head p))
         (good-true n c (pairs-tail p) (λ x m. i x (tail m)))
 
-    pub good?-iff : (n : ℕ) (ss : List S) (es : List ℕ) → (good? n ss es ≡ true) ↔ Good ss n es
+    pub good?-iff : (n : ℕ) (ss : List S) (es : List ℕ) → (good? n ss es ≡ true) ↔ Good dep fits ss n es
     good?-iff n ss es = (true-good n ss es, λ h. good-true n (h .fit) (h .apart) (h .among))
 
 -- what is good by one dependence and fitting is good by another that agrees on the first n events

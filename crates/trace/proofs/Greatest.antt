@@ -12,25 +12,19 @@ use Prim.Native.Nat.{ℕ, zero, suc, _≤_}
 use native.Mathlib.Omega.{arith}
 use lib.ListN.{length}
 use Rattle.trace.specs.Match.{Each, Pairs}
+use Rattle.trace.specs.Tuples.{eventAt, depAt, fitsAt, Among, Before, Fitting, Good, Best, best, no-tuple, BestOf}
 use Rattle.trace.proofs.Lists.{both-ways}
-use Rattle.trace.proofs.Rows.{Fitting, pairs-head, pairs-tail, pairs-join, pairs-left, pairs-right, pairs-across}
+use Rattle.trace.proofs.Rows.{pairs-head, pairs-tail, pairs-join, pairs-left, pairs-right, pairs-across}
 use Rattle.trace.proofs.Rows.{each-split, each-cut, each-join, each-mem, each-length}
-use Rattle.trace.proofs.Runs.{Among}
-use Rattle.trace.proofs.Before.{Before, before-le, before-dep, before-trans, Agree, agree-back}
-use Rattle.trace.proofs.GoodTuples.{Good, good-nil, good-carry}
-use Rattle.trace.proofs.Numbers.{eventAt, depAt, fitsAt, dep-append, fits-append}
+use Rattle.trace.proofs.Before.{before-le, before-dep, before-trans, Agree, agree-back}
+use Rattle.trace.proofs.GoodTuples.{good-nil, good-carry}
+use Rattle.trace.proofs.Numbers.{dep-append, fits-append}
 
 -- Law L, the one fact about fitting that is needed.
 abbrev pub LawL : {S A : Type 0} → (A → A → Bool) → (S → A → Bool) → Type 0
 LawL {S} {A} dep fits = (s : S) (a b : A) → fits s a ≡ true → fits s b ≡ true → dep a b ≡ true
 
 module _ {S : Type 0} (dep : ℕ → ℕ → Bool) (fits : S → ℕ → Bool) where
-  -- the greatest of the good tuples, slot by slot; or that there is none
-  pub data Best (ss : List S) (n : ℕ) : Option (List ℕ) → Type 0 where
-    best : {ms : List ℕ} → Good dep fits ss n ms → ((es : List ℕ) → Good dep fits ss n es → Each (λ e m. e ≤ m) es ms)
-        → Best ss n (some ms)
-    no-tuple : ((es : List ℕ) → ¬ Good dep fits ss n es) → Best ss n none
-
   -- what is good stays so with one event more; and back where the tuple does not have that event
   good-up : {ss : List S} {n : ℕ} {es : List ℕ} → Good dep fits ss n es → Good dep fits ss (suc n) es
   good-up h = record { fit = h .fit; apart = h .apart; among = λ e m. let r = h .among e m in omega arith }
@@ -45,26 +39,26 @@ module _ {S : Type 0} (dep : ℕ → ℕ → Bool) (fits : S → ℕ → Bool) w
 
   -- nothing changes where no good tuple has the new event
   stays : {ss : List S} {n : ℕ} {o : Option (List ℕ)} → ((es : List ℕ) → Good dep fits ss (suc n) es → ¬ Mem (suc n) es)
-      → Best ss n o → Best ss (suc n) o
+      → Best dep fits ss n o → Best dep fits ss (suc n) o
   stays d (best a g) = best (good-up a) (λ es h. g es (good-down h (d es h)))
   stays d (no-tuple g) = no-tuple (λ es h. g es (good-down h (d es h)))
 
   -- the start: no event yet
-  pub best-nil : Best [] zero (some [])
+  pub best-nil : Best dep fits [] zero (some [])
   best-nil = best (good-nil dep fits zero) (λ es h. nil-only (h .fit))
     where
       nil-only : {es : List ℕ} → Fitting fits [] es → Each (λ e m. e ≤ m) es []
       nil-only Each.none = Each.none
 
-  pub best-cons : (s : S) (ss : List S) → Best (s ∷ ss) zero none
+  pub best-cons : (s : S) (ss : List S) → Best dep fits (s ∷ ss) zero none
   best-cons s ss = no-tuple (λ es h. some-event (h .fit) (h .among))
     where
       some-event : {es : List ℕ} → Fitting fits (s ∷ ss) es → ((e : ℕ) → Mem e es → Among zero e) → ⊥
       some-event (Each.more {a = a} f c) i = let h = i a (head refl) in omega arith
 
   -- an event arrives that fits no slot of the list
-  pub fits-none : {ss : List S} {n : ℕ} {o : Option (List ℕ)} → ((s : S) → Mem s ss → fits s (suc n) ≡ false) → Best ss n o
-      → Best ss (suc n) o
+  pub fits-none : {ss : List S} {n : ℕ} {o : Option (List ℕ)} → ((s : S) → Mem s ss → fits s (suc n) ≡ false) → Best dep fits ss n o
+      → Best dep fits ss (suc n) o
   fits-none d b = stays (λ es h j. let r = each-mem (h .fit) j in both-ways (r .2) (d (r .0) (r .1))) b
 
   module _ (law : LawL dep fits) where
@@ -132,13 +126,13 @@ module _ {S : Type 0} (dep : ℕ → ℕ → Bool) (fits : S → ℕ → Bool) w
           go ea eb w ca (Each.more {a = e} {rest = eb′} f c) = cut-at ea e eb′ w ca f c (rw w at h)
 
       -- first case: there is no tuple for the other slots, so none with the new event
-      pub none-yet : Best (ps ++ qs) n none → {o : Option (List ℕ)} → Best (ps ++ (s ∷ qs)) n o → Best (ps ++ (s ∷ qs)) (suc n) o
+      pub none-yet : Best dep fits (ps ++ qs) n none → {o : Option (List ℕ)} → Best dep fits (ps ++ (s ∷ qs)) n o → Best dep fits (ps ++ (s ∷ qs)) (suc n) o
       none-yet (no-tuple g) d = stays (λ es h j. let c = cut es h in g (c .ea ++ c .eb) (c .rest)) d
 
       module _ (ma mb : List ℕ) (place : length ma ≡ length ps) where
         -- second case: the new event joins the greatest tuple for the other slots
-        pub joins : Best (ps ++ qs) n (some (ma ++ mb)) → ((m : ℕ) → Mem m mb → ¬ Before dep m (suc n))
-            → Best (ps ++ (s ∷ qs)) (suc n) (some (ma ++ (suc n ∷ mb)))
+        pub joins : Best dep fits (ps ++ qs) n (some (ma ++ mb)) → ((m : ℕ) → Mem m mb → ¬ Before dep m (suc n))
+            → Best dep fits (ps ++ (s ∷ qs)) (suc n) (some (ma ++ (suc n ∷ mb)))
         joins (best a g) free =
             best
             (record {
@@ -170,8 +164,8 @@ module _ {S : Type 0} (dep : ℕ → ℕ → Bool) (fits : S → ℕ → Bool) w
                 rw (c .whole) (each-join (r .0) (Each.more (c .top) (r .1)))
 
         -- third case: an event of a later slot comes before the new event, so no tuple has that
-        pub barred : Best (ps ++ qs) n (some (ma ++ mb)) → (m : ℕ) → Mem m mb → Before dep m (suc n) → {o : Option (List ℕ)}
-            → Best (ps ++ (s ∷ qs)) n o → Best (ps ++ (s ∷ qs)) (suc n) o
+        pub barred : Best dep fits (ps ++ qs) n (some (ma ++ mb)) → (m : ℕ) → Mem m mb → Before dep m (suc n) → {o : Option (List ℕ)}
+            → Best dep fits (ps ++ (s ∷ qs)) n o → Best dep fits (ps ++ (s ∷ qs)) (suc n) o
         barred (best a g) m i p d = stays (λ es h j. never es (cut es h) j) d
           where
             old : {es : List ℕ} (c : Split es) → ¬ Mem (suc n) (c .ea ++ c .eb)
@@ -204,11 +198,7 @@ module _ {S : Type 0} {n : ℕ} {dep dep′ : ℕ → ℕ → Bool} {fits fits�
   best-carry (no-tuple g) = no-tuple (λ es h. g es (good-back h))
 
 module _ {E S : Type 0} (other : E) (dep : E → E → Bool) (fits : S → E → Bool) where
-  -- the greatest good tuple of a list of events (of the empty list, by `best-nil` and `best-cons`)
-  abbrev pub BestOf : List E → List S → Option (List ℕ) → Type 0
-  BestOf log ss o = Best (depAt other dep log) (fitsAt other fits log) ss (length log) o
-
-  pub best-append : (log later : List E) {ss : List S} {o : Option (List ℕ)} → BestOf log ss o
+  pub best-append : (log later : List E) {ss : List S} {o : Option (List ℕ)} → BestOf other dep fits log ss o
       → Best (depAt other dep (log ++ later)) (fitsAt other fits (log ++ later)) ss (length log) o
   best-append log later =
       best-carry (agree-back (dep-append other dep log later)) (λ s i p. sym (fits-append other fits log later s i p))

@@ -6,7 +6,8 @@ use mathlib.Core.List.{List, [], _∷_, _++_, map, cons≢nil, List·Memᴰ as M
 use mathlib.Core.List.{Sublistᴰ as Sublist, Sublistᴰ·slnil as end, Sublistᴰ·cons as skip, Sublistᴰ·cons-cons as take}
 use mathlib.Core.List.{Sublistᴰ·nil-sublist as nil-sublist}
 use Rattle.trace.specs.Match.{Each, Pairs, Holds}
-use Rattle.trace.proofs.Rows.{pairs-head, pairs-tail, Fitting}
+use Rattle.trace.specs.Tuples.{Fitting}
+use Rattle.trace.proofs.Rows.{pairs-head, pairs-tail}
 
 module _ {A : Type 0} where
   pub sublist-mem : {z : A} {es ys : List A} → Sublist es ys → Mem z es → Mem z ys

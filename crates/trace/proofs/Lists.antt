@@ -8,6 +8,7 @@ use mathlib.Core.List.{List·Memᴰ·not-nil as not-mem-nil}
 use Prim.Native.Nat.{suc}
 use native.Mathlib.Omega.{arith}
 use lib.ListN.{length, length-append}
+use Rattle.trace.specs.Tuples.{keep}
 
 -- a test is passed or failed, with the equation kept
 pub true-or-false : (b : Bool) → (b ≡ true) ⊎ (b ≡ false)
@@ -40,11 +41,6 @@ module _ {A : Type 0} where
   -- one element more
   pub length-snoc : (xs : List A) (x : A) → length (xs ++ (x ∷ [])) ≡ suc (length xs)
   length-snoc xs x = rw length-append (omega arith)
-
-  -- x in front if the test is passed
-  abbrev pub keep : Bool → A → List A → List A
-  keep true x xs = x ∷ xs
-  keep false x xs = xs
 
   -- the elements that pass the test, in their order
   abbrev pub filter : (A → Bool) → List A → List A

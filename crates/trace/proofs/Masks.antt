@@ -7,17 +7,10 @@ use mathlib.Core.Option.{Option, some, none}
 use Prim.Native.Nat.{ℕ, suc}
 use native.Mathlib.Omega.{arith}
 use lib.ListN.{length}
-use Rattle.trace.proofs.Lists.{keep}
-use Rattle.trace.proofs.Before.{Before}
-use Rattle.trace.proofs.Greatest.{LawL, Best, none-yet, joins, barred}
+use Rattle.trace.specs.Tuples.{Before, Best, keep, pick}
+use Rattle.trace.proofs.Greatest.{LawL, none-yet, joins, barred}
 
 module _ {A : Type 0} where
-  -- the elements at the bits that are set
-  abbrev pub pick : List Bool → List A → List A
-  pick [] xs = []
-  pick (b ∷ bs) [] = []
-  pick (b ∷ bs) (x ∷ xs) = keep b x (pick bs xs)
-
   keep-append : (b : Bool) (x : A) (xs ys : List A) → keep b x xs ++ ys ≡ keep b x (xs ++ ys)
   keep-append true x xs ys = refl
   keep-append false x xs ys = refl

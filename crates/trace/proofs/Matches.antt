@@ -12,13 +12,13 @@ use lib.Seq.{length-take-le, take-nil, take-take}
 use Rattle.trace.specs.Swaps.{Reaches, stay}
 use Rattle.trace.specs.Before.{Numbered}
 use Rattle.trace.specs.Match.{Holds, HasMatch, Each, Pairs, Named}
-use Rattle.trace.proofs.Rows.{Fitting}
+use Rattle.trace.specs.Tuples.{eventAt, depAt, fitsAt, Fitting, Good}
 use Rattle.trace.proofs.Holds.{holds-pick, holds-ahead, map-holds, lift-holds, sublist-mem}
 use Rattle.trace.proofs.Swaps.{reaches-trans, reaches-ahead, reaches-back, reaches-mem⁻, map-reaches, lift-reaches}
 use Rattle.trace.proofs.Runs.{run}
 use Rattle.trace.proofs.Before.{agree-back}
-use Rattle.trace.proofs.GoodTuples.{Good, good-iff, good-carry}
-use Rattle.trace.proofs.Numbers.{numbered-among, eventAt, run-events, depAt, fitsAt, dep-take, fits-take, named-good}
+use Rattle.trace.proofs.GoodTuples.{good-iff, good-carry}
+use Rattle.trace.proofs.Numbers.{numbered-among, run-events, dep-take, fits-take, named-good}
 use Rattle.trace.proofs.Numbers.{good-named}
 
 module _ {E S : Type 0} (other : E) (dep : E → E → Bool) (fits : S → E → Bool) where

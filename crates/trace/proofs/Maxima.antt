@@ -8,10 +8,9 @@ use Prim.Native.Nat.{ℕ, _≤_, max}
 use native.Mathlib.Decide.{decLe}
 use native.Mathlib.Omega.{arith}
 use Rattle.trace.specs.Match.{Each, Pairs}
-use Rattle.trace.proofs.Rows.{Fitting, pairs-head, pairs-tail}
-use Rattle.trace.proofs.Runs.{Among}
-use Rattle.trace.proofs.Before.{Before, before-dep, before-trans, Apart}
-use Rattle.trace.proofs.GoodTuples.{Good}
+use Rattle.trace.specs.Tuples.{Among, Before, Apart, Fitting, Good}
+use Rattle.trace.proofs.Rows.{pairs-head, pairs-tail}
+use Rattle.trace.proofs.Before.{before-dep, before-trans}
 use Rattle.trace.proofs.Greatest.{LawL}
 
 -- the later of the two, slot by slot

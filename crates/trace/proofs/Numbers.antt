@@ -14,10 +14,11 @@ use lib.Seq.{getD-append-seam, getD-take}
 use borrow.Author.Tests.{leb-true, le-leb}
 use Rattle.trace.specs.Before.{Numbered, first, next, ComesBefore}
 use Rattle.trace.specs.Match.{Named}
+use Rattle.trace.specs.Tuples.{eventAt, depAt, fitsAt, Among, Before, same, chain, Good}
 use Rattle.trace.proofs.Rows.{pairs-map, each-map, each-mem}
-use Rattle.trace.proofs.Runs.{run, Among}
-use Rattle.trace.proofs.Before.{Before, same, chain, before-le, before, before-true, true-before, Agree}
-use Rattle.trace.proofs.GoodTuples.{Good, good?, good?-iff}
+use Rattle.trace.proofs.Runs.{run}
+use Rattle.trace.proofs.Before.{before-le, before, before-true, true-before, Agree}
+use Rattle.trace.proofs.GoodTuples.{good?, good?-iff}
 
 module _ {E : Type 0} where
   -- an event of the list has a number from 1 to its length
@@ -36,31 +37,26 @@ module _ {E : Type 0} where
   numbered-shrink (x ∷ log) later l (next n) = next (numbered-shrink log later (omega arith) n)
 
 module _ {E : Type 0} (other : E) where
-  -- the event of this number; `other` where the list has none
-  abbrev pub eventAt : List E → ℕ → E
-  eventAt log zero = other
-  eventAt log (suc i) = getD log i other
-
-  pub numbered-at : {log : List E} {i : ℕ} {e : E} → Numbered log i e → eventAt log i ≡ e
+  pub numbered-at : {log : List E} {i : ℕ} {e : E} → Numbered log i e → eventAt other log i ≡ e
   numbered-at first = refl
   numbered-at (next {i = zero} n) = absurd (let h = numbered-among n in omega arith)
   numbered-at (next {i = suc i} n) = numbered-at n
 
-  pub at-numbered : (log : List E) (i : ℕ) → Among (length log) i → Numbered log i (eventAt log i)
+  pub at-numbered : (log : List E) (i : ℕ) → Among (length log) i → Numbered log i (eventAt other log i)
   at-numbered log zero h = absurd (omega arith)
   at-numbered [] (suc i) h = absurd (omega arith)
   at-numbered (x ∷ log) (suc zero) h = first
   at-numbered (x ∷ log) (suc (suc i)) h = next (at-numbered log (suc i) (omega arith))
 
   -- later events change no event, nor do those left off the end
-  pub event-append : (log later : List E) (i : ℕ) → i ≤ length log → eventAt (log ++ later) i ≡ eventAt log i
+  pub event-append : (log later : List E) (i : ℕ) → i ≤ length log → eventAt other (log ++ later) i ≡ eventAt other log i
   event-append log later zero l = refl
   event-append log later (suc i) l = List·getD-append log later other i l
 
-  pub event-new : (log : List E) (e : E) → eventAt (log ++ (e ∷ [])) (suc (length log)) ≡ e
+  pub event-new : (log : List E) (e : E) → eventAt other (log ++ (e ∷ [])) (suc (length log)) ≡ e
   event-new log e = getD-append-seam log e [] other
 
-  pub event-take : (log : List E) (n i : ℕ) → i ≤ n → eventAt (take n log) i ≡ eventAt log i
+  pub event-take : (log : List E) (n i : ℕ) → i ≤ n → eventAt other (take n log) i ≡ eventAt other log i
   event-take log n zero l = refl
   event-take log n (suc i) l = getD-take n log i other l
 
@@ -76,18 +72,11 @@ module _ {E : Type 0} (other : E) where
       suc-add a i = omega arith
 
   -- the recorded order's events are the list
-  pub run-events : (log : List E) → map (eventAt log) (run 1 (length log)) ≡ log
-  run-events log = run-map (eventAt log) 1 log (λ i l. ap (eventAt log) (one-add i))
+  pub run-events : (log : List E) → map (eventAt other log) (run 1 (length log)) ≡ log
+  run-events log = run-map (eventAt other log) 1 log (λ i l. ap (eventAt other log) (one-add i))
     where
       one-add : (i : ℕ) → 1 + i ≡ suc i
       one-add i = omega arith
-
--- the dependence of events, and how they fit slots, by their numbers
-abbrev pub depAt : {E : Type 0} → E → (E → E → Bool) → List E → ℕ → ℕ → Bool
-depAt other dep log i j = dep (eventAt other log i) (eventAt other log j)
-
-abbrev pub fitsAt : {E S : Type 0} → E → (S → E → Bool) → List E → S → ℕ → Bool
-fitsAt other fits log s i = fits s (eventAt other log i)
 
 module _ {E : Type 0} (other : E) (dep : E → E → Bool) where
   pub dep-append : (log later : List E) → Agree (length log) (depAt other dep (log ++ later)) (depAt other dep log)

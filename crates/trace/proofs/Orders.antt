@@ -13,11 +13,12 @@ use lib.Dec.{eqb}
 use borrow.Author.Tests.{eqb-true, eqb-false, eq-eqb, ne-eqb, not-true}
 use Rattle.trace.specs.Swaps.{Swap, here, later, Reaches, stay, swap}
 use Rattle.trace.specs.Match.{Pairs}
+use Rattle.trace.specs.Tuples.{Before, same, chain, Apart}
 use Rattle.trace.proofs.Lists.{both-ways, failed, filter, mem-filter, mem-of-filter}
 use Rattle.trace.proofs.Rows.{pairs-head, pairs-tail, pairs-map, pairs-filter}
 use Rattle.trace.proofs.Swaps.{perm-mem, swap-mem, swap-mem⁻, reaches-trans, reaches-later, reaches-perm, to-front}
 use Rattle.trace.proofs.Runs.{run, among-of, of-among, run-rises}
-use Rattle.trace.proofs.Before.{Before, same, chain, before-le, before-one, Apart}
+use Rattle.trace.proofs.Before.{before-le, before-one}
 
 module _ (dep : ℕ → ℕ → Bool) where
   -- ---- swaps turn round no pair

@@ -10,7 +10,8 @@ use Prim.Native.Nat.{suc}
 use native.Mathlib.Omega.{arith}
 use lib.ListN.{length}
 use Rattle.trace.specs.Match.{Each, Pairs}
-use Rattle.trace.proofs.Lists.{keep, filter, mem-of-filter}
+use Rattle.trace.specs.Tuples.{keep}
+use Rattle.trace.proofs.Lists.{filter, mem-of-filter}
 
 -- ---- each element and those after it
 
@@ -58,10 +59,6 @@ module _ {A : Type 0} {R R′ : A → A → Type 0} where
       Pairs.more (λ y m. f x y (head refl) (tail m) (h y m)) (pairs-map (λ x y m n. f x y (tail m) (tail n)) p)
 
 -- ---- an element for each slot
-
--- one that fits it
-abbrev pub Fitting : {S A : Type 0} → (S → A → Bool) → List S → List A → Type 0
-Fitting fits ss es = Each (λ s e. fits s e ≡ true) ss es
 
 module _ {S A : Type 0} where
   pub each-split : {R : S → A → Type 0} (ps : List S) {qs : List S} {es : List A} → Each R (ps ++ qs) es

@@ -9,11 +9,12 @@ use Prim.Native.Nat.{ℕ, zero, suc, _+_}
 use native.Mathlib.Omega.{arith}
 use lib.ListN.{length, take, drop, take-append-drop, length-append}
 use lib.Seq.{length-take-le}
+use Rattle.trace.specs.Tuples.{Best, best, no-tuple}
 use Rattle.trace.proofs.Lists.{any, any-true}
 use Rattle.trace.proofs.Rows.{each-length}
 use Rattle.trace.proofs.Before.{before, before-true}
 use Rattle.trace.proofs.GoodTuples.{none-before}
-use Rattle.trace.proofs.Greatest.{LawL, Best, best, no-tuple, fits-none, best-nil, best-cons, none-yet, joins, barred}
+use Rattle.trace.proofs.Greatest.{LawL, fits-none, best-nil, best-cons, none-yet, joins, barred}
 
 -- where a list is cut: at an element, with those before and after it; or nowhere
 pub data Cut (S : Type 0) : Type 0 where

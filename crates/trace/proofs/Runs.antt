@@ -7,6 +7,7 @@ use Prim.Native.Nat.{ℕ, zero, suc, _+_, _≤_, _<_}
 use native.Mathlib.Decide.{ℕ-discrete}
 use native.Mathlib.Omega.{arith}
 use Rattle.trace.specs.Match.{Pairs}
+use Rattle.trace.specs.Tuples.{Among}
 
 -- n numbers from a on; the recorded order is `run 1 n`
 abbrev pub run : ℕ → ℕ → List ℕ
@@ -25,10 +26,6 @@ run-mem a (suc n) k l h = go (ℕ-discrete k a) (λ l′ h′. run-mem (suc a) n
     go : Dec (k ≡ a) → (suc a ≤ k → k < suc a + n → Mem k (run (suc a) n)) → Mem k (run a (suc n))
     go (yes e) ih = head e
     go (no d) ih = tail (ih (omega arith) (omega arith))
-
--- k is one of the numbers 1 to n
-abbrev pub Among : ℕ → ℕ → Type 0
-Among n k = (1 ≤ k) × (k ≤ n)
 
 pub among-of : {k : ℕ} (n : ℕ) → Mem k (run 1 n) → Among n k
 among-of n m = let h = run-range 1 n m in omega arith

@@ -8,12 +8,13 @@ use mathlib.Core.List.{List·Memᴰ·not-nil as not-mem-nil}
 use Prim.Native.Nat.{ℕ}
 use borrow.Author.Tests.{not-true}
 use Rattle.trace.specs.Match.{Each}
+use Rattle.trace.specs.Tuples.{Among, Before, Apart, Fitting, Good}
 use Rattle.trace.proofs.Lists.{filter, mem-filter, mem-of-filter, any, any-true, any-mem, any-false}
 use Rattle.trace.proofs.Lists.{any-none}
-use Rattle.trace.proofs.Rows.{Fitting, pairs-head, pairs-tail}
-use Rattle.trace.proofs.Runs.{run, Among, among-of, of-among}
-use Rattle.trace.proofs.Before.{Before, before, before-true, true-before, Apart}
-use Rattle.trace.proofs.GoodTuples.{Good, good-nil, good-cons}
+use Rattle.trace.proofs.Rows.{pairs-head, pairs-tail}
+use Rattle.trace.proofs.Runs.{run, among-of, of-among}
+use Rattle.trace.proofs.Before.{before, before-true, true-before}
+use Rattle.trace.proofs.GoodTuples.{good-nil, good-cons}
 
 module _ {S : Type 0} (dep : ℕ → ℕ → Bool) (fits : S → ℕ → Bool) (n : ℕ) where
   -- e fits the slot, and neither comes before an event chosen for an earlier slot nor is it

@@ -14,21 +14,17 @@ use lib.ListN.{length}
 use borrow.Author.Tests.{eqb-true, eq-eqb, leb-true, le-leb}
 use Rattle.trace.specs.Before.{Numbered, ComesBefore}
 use Rattle.trace.specs.Stamps.{OfThreadBefore, IsStamp}
+use Rattle.trace.specs.Tuples.{eventAt, depAt, threadAt, Among, Before, same, tally, place}
 use Rattle.trace.proofs.Lists.{true-or-false, both-ways, same-test}
-use Rattle.trace.proofs.Runs.{Among}
-use Rattle.trace.proofs.Before.{Before, same, before-le, before-dep, before-trans, before, before-true, true-before}
+use Rattle.trace.proofs.Before.{before-le, before-dep, before-trans, before, before-true, true-before}
 use Rattle.trace.proofs.Before.{before-same, Agree}
-use Rattle.trace.proofs.Tallies.{tally, tally-longer, tally-within, tally-same, how-many, how-many-unique}
-use Rattle.trace.proofs.Numbers.{eventAt, depAt, numbered-among, numbered-at, at-numbered, event-append, dep-append}
+use Rattle.trace.proofs.Tallies.{tally-longer, tally-within, tally-same, how-many, how-many-unique}
+use Rattle.trace.proofs.Numbers.{numbered-among, numbered-at, at-numbered, event-append, dep-append}
 use Rattle.trace.proofs.Numbers.{comes-before, before-comes, comes-iff}
 
 -- how many events of the thread t come before e or are it
 unfoldable pub stamp : (ℕ → ℕ → Bool) → (ℕ → ℕ) → ℕ → ℕ → ℕ
 stamp dep thread e t = tally (λ k. eqb (thread k) t && before dep k e) e
-
--- an event's place among the events of its thread, from 1
-unfoldable pub place : (ℕ → ℕ) → ℕ → ℕ
-place thread i = tally (λ k. eqb (thread k) (thread i)) i
 
 -- the events of a thread are dependent on each other
 module _ (dep : ℕ → ℕ → Bool) (thread : ℕ → ℕ) (one-thread : (i j : ℕ) → thread i ≡ thread j → dep i j ≡ true) where
@@ -108,9 +104,6 @@ module _ {n : ℕ} {dep dep′ : ℕ → ℕ → Bool} {thread thread′ : ℕ �
       each k u = rw (alike k (omega arith), before-same agree k j l)
 
 -- ---- stamps of a list of events
-
-abbrev pub threadAt : {E : Type 0} → E → (E → ℕ) → List E → ℕ → ℕ
-threadAt other thread log i = thread (eventAt other log i)
 
 module _ {E : Type 0} (other : E) (thread : E → ℕ) where
   pub place-append : (log later : List E) (i : ℕ) → i ≤ length log

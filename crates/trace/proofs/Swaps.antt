@@ -8,7 +8,8 @@ use mathlib.Core.List.{List·Permᴰ as Perm, List·Permᴰ·nil as perm-nil, Li
 use mathlib.Core.List.{List·Permᴰ·trans as perm-trans, Permᴰ·refl as perm-refl, Permᴰ·symm as perm-sym}
 use Rattle.trace.specs.Swaps.{Swap, here, later, Reaches, stay, swap}
 use Rattle.trace.specs.Match.{Pairs}
-use Rattle.trace.proofs.Lists.{keep, filter, mem-of-filter}
+use Rattle.trace.specs.Tuples.{keep}
+use Rattle.trace.proofs.Lists.{filter, mem-of-filter}
 
 module _ {A : Type 0} where
   pub perm-mem : {z : A} {xs ys : List A} → Perm xs ys → Mem z xs → Mem z ys

@@ -9,20 +9,10 @@ use native.Mathlib.Nat.{le-refl, le-trans}
 use native.Mathlib.Decide.{decLe}
 use native.Mathlib.Omega.{arith}
 use Rattle.trace.specs.Stamps.{HowMany}
+use Rattle.trace.specs.Tuples.{Among, one-more, tally}
 use Rattle.trace.proofs.Lists.{true-or-false, both-ways, any}
-use Rattle.trace.proofs.Runs.{Among}
 
 -- ---- how many
-
--- one more if the test is passed
-abbrev pub one-more : Bool → ℕ → ℕ
-one-more true n = suc n
-one-more false n = n
-
--- how many of the numbers 1 to n pass the test
-abbrev pub tally : (ℕ → Bool) → ℕ → ℕ
-tally p zero = zero
-tally p (suc n) = one-more (p (suc n)) (tally p n)
 
 pub tally-longer : (p : ℕ → Bool) (m n : ℕ) → m ≤ n → tally p m ≤ tally p n
 tally-longer p m zero l = let e : m ≡ zero = omega arith in rw e (le-refl 0)

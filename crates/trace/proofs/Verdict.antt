@@ -8,11 +8,12 @@ use Prim.Native.Nat.{ℕ, suc}
 use native.Mathlib.Nat.{le-refl}
 use lib.ListN.{length}
 use Rattle.trace.specs.Match.{HasMatch, IsCount, Named}
+use Rattle.trace.specs.Tuples.{depAt, fitsAt, best, no-tuple, BestOf}
 use Rattle.trace.proofs.Lists.{length-snoc}
-use Rattle.trace.proofs.Numbers.{depAt, fitsAt, good-named}
+use Rattle.trace.proofs.Numbers.{good-named}
 use Rattle.trace.proofs.Matches.{match-good}
 use Rattle.trace.proofs.Counts.{count-starts}
-use Rattle.trace.proofs.Greatest.{LawL, best, no-tuple, BestOf, law-at}
+use Rattle.trace.proofs.Greatest.{LawL, law-at}
 use Rattle.trace.proofs.Rule.{kept, kept-best}
 
 module _ {E S : Type 0} (dep : E → E → Bool) (fits : S → E → Bool) where

@@ -1,5 +1,6 @@
--- What document 01 says of orders, matches, counts and stamps, for any events and any slots.
+-- What document 01 says of orders, matches, counts and stamps, for any events and any slots; and good tuples, which a table keeps.
 pub mod Swaps
 pub mod Before
 pub mod Match
 pub mod Stamps
+pub mod Tuples

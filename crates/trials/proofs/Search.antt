@@ -7,11 +7,11 @@ use mathlib.Core.List.{List, [], _∷_, _++_, map, List·Memᴰ as Mem, List·Me
 use mathlib.Core.List.{Memᴰ·append-left as mem-left, Memᴰ·append-right as mem-right, Memᴰ·map as mem-map}
 use lib.ListN.{length}
 use Rattle.trace.specs.Match.{Each, Named}
+use Rattle.trace.specs.Tuples.{depAt, fitsAt, Among, Fitting}
 use Rattle.trace.proofs.Lists.{filter, mem-filter, mem-of-filter}
-use Rattle.trace.proofs.Rows.{Fitting}
-use Rattle.trace.proofs.Runs.{run, Among, of-among}
+use Rattle.trace.proofs.Runs.{run, of-among}
 use Rattle.trace.proofs.GoodTuples.{good?, good?-iff}
-use Rattle.trace.proofs.Numbers.{depAt, fitsAt, named-good, named?-iff}
+use Rattle.trace.proofs.Numbers.{named-good, named?-iff}
 
 module _ {A : Type 0} where
   -- each element before each row
