@@ -10,7 +10,7 @@ use Rattle.event.specs.declared.Event.{Event}
 use Rattle.event.specs.declared.Slot.{Slot}
 use Rattle.event.specs.Limits.{slots}
 use Rattle.event.specs.Slots.{slotOf, fits, fitting, threadsOf}
-use Rattle.event.specs.Range.{rangeRefusal}
+use Rattle.event.specs.Range.{rangeRefusalUnder}
 use Rattle.event.specs.Keys.{slotNumber, slotNumbers}
 use Rattle.event.proofs.InRange.{in-range}
 use Rattle.event.proofs.SlotNumbers.{byte-low, fits-by-number}
@@ -19,7 +19,7 @@ use Rattle.bilguzor.specs.Parts.{actingIn, fittingIn}
 
 -- a good pattern's slots are within their limits, and so are the places beyond them
 blanks : (n : ℕ) → InLimits (replicate n blank)
-unfolding rangeRefusal
+unfolding rangeRefusalUnder
 blanks zero = no-slot
 blanks (suc n) = one-slot refl (blanks n)
 

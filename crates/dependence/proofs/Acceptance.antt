@@ -24,7 +24,7 @@ use Rattle.event.specs.Range.{row, firstMet}
 use Rattle.event.proofs.Tests.{by-test}
 use Rattle.event.proofs.InRange.{from-range, range-passes}
 use Rattle.rules.specs.Accepted.{some, actsAs, namesThread, joinsThread, joined, actedOrNamed, Lock, lockAfter, lockOf}
-use Rattle.rules.specs.Accepted.{effectRows, eventRows, refusalAfter, AcceptedAfter, whole, one-more, Accepted}
+use Rattle.rules.specs.Accepted.{effectRows, eventRows, refusalAfter, refusalUnder, AcceptedAfter, whole, one-more, Accepted}
 use Rattle.rules.proofs.StateLaws.{clear}
 use Rattle.trace.specs.Swaps.{Swap, here, later, Reaches, stay, swap}
 use Rattle.dependence.specs.Dependence.{lock, named, same, sameThread, sameVariableOneWrite, sameLock}
@@ -138,7 +138,7 @@ put-before a b past i =
 -- an event taken after g is taken after h, where there is room and the numbers 10 to 14 are given alike
 taken-after : (g h : List Event) (e : Event) → ruleNumber g e ≡ ruleNumber h e → length h < events → refusalAfter g e ≡ 0
     → refusalAfter h e ≡ 0
-unfolding refusalAfter
+unfolding refusalUnder
 taken-after g h e q room r =
     let k = clear g e r in
     let before : ruleNumber g e ≡ 0 = rw (k .alive) (k .free-to) in

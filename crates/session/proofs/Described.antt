@@ -24,7 +24,7 @@ use Rattle.log.specs.declared.Pattern.{Pattern}
 use Rattle.log.specs.Whole.{GoodPattern, no-slot, one-slot, Whole, accepted, refused, blank, patternOf, patternFrom, readPattern}
 use Rattle.log.proofs.PatternRoundTrip.{pattern-iff}
 use Rattle.command.specs.Bytes.{Bytes}
-use Rattle.event.specs.Range.{rangeRefusal}
+use Rattle.event.specs.Range.{rangeRefusalUnder}
 use Rattle.trace.proofs.Matches.{empty-match, match-append, match-whole}
 use Rattle.trace.proofs.Counts.{count-stays, count-starts, count-match}
 use Rattle.trace.proofs.Numbers.{named-append}
@@ -229,7 +229,7 @@ verdict-described ss es s h = rw size-is (go (s .count) refl (h .search))
 -- ---- an opening
 
 lone-good : GoodPattern (blank ∷ [])
-unfolding rangeRefusal
+unfolding rangeRefusalUnder
 lone-good = record { some = omega arith; few = omega arith; limits = one-slot refl no-slot }
 
 -- the slots that a session looks for are always a good pattern

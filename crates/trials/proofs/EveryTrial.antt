@@ -10,11 +10,11 @@ use lib.ListN.{length}
 use Rattle.event.specs.declared.Event.{Event}
 use Rattle.event.specs.declared.Operation.the-variants.{Mark}
 use Rattle.event.specs.declared.Slot.{Slot}
-use Rattle.event.specs.Range.{rangeRefusal}
+use Rattle.event.specs.Range.{rangeRefusalUnder}
 use Rattle.event.specs.Slots.{fits}
-use Rattle.rules.specs.Accepted.{some, lockOf, refusalAfter}
-use Rattle.command.specs.Reading.{decode, readSlot}
-use Rattle.log.specs.Whole.{Whole, accepted, refused, outcomeOf, rowFrom, stepAfter, readLog, slotAfter, readPattern}
+use Rattle.rules.specs.Accepted.{some, lockOf, refusalUnder}
+use Rattle.command.specs.Reading.{decode, readSlotUnder}
+use Rattle.log.specs.Whole.{Whole, accepted, refused, outcomeOf, rowFrom, stepUnder, readLog, readLogUnder, slotUnder, readPattern, readPatternUnder}
 use Rattle.log.proofs.PatternRoundTrip.{pattern-iff}
 use Rattle.trace.specs.Match.{smallest, without}
 use Rattle.trace.proofs.Before.{before}
@@ -103,7 +103,7 @@ all-shown (All.more {t = t} c cs) = All.more (shown t c) (all-shown cs)
 
 -- one line for each row of the table
 computed : All Computed trials
-unfolding readPattern readLog rowFrom stepAfter slotAfter readSlot decode rangeRefusal refusalAfter some lockOf dependent before heightText metresOf figures
+unfolding readPatternUnder readLogUnder rowFrom stepUnder slotUnder readSlotUnder decode rangeRefusalUnder refusalUnder some lockOf dependent before heightText metresOf figures
 computed =
     All.more refl
     (All.more refl
