@@ -146,21 +146,6 @@ module _ {E : Type 0} (other : E) (dep : E → E → Bool) (log : List E) where
 
 -- ---- the numbers named with a match
 
-module _ {E S : Type 0} (dep : E → E → Bool) (fits : S → E → Bool) where
-  -- they stay as they are when events follow
-  pub named-append : {ss : List S} {log : List E} {count : ℕ} {is : List ℕ} (later : List E) → Named dep fits ss log count is
-      → Named dep fits ss (log ++ later) count is
-  named-append {log = log} {is = is} later h =
-      record {
-        distinct = h .distinct;
-        fitting = each-map (λ s i m r. (r .0, numbered-append later (r .1), r .2)) (h .fitting);
-        within = h .within;
-        apart = pairs-map (λ x y m k d b. d (comes-shrink dep log later (listed x m) b)) (h .apart);
-      }
-    where
-      listed : (i : ℕ) → Mem i is → i ≤ length log
-      listed i m = numbered-among (each-mem (h .fitting) m .2 .1) .1
-
 module _ {E S : Type 0} (other : E) (dep : E → E → Bool) (fits : S → E → Bool) (ss : List S) (log : List E) (count : ℕ)
     (is : List ℕ) where
   pub named-good : Named dep fits ss log count is → Good (depAt other dep log) (fitsAt other fits log) ss count is
@@ -198,3 +183,18 @@ module _ {E S : Type 0} (other : E) (dep : E → E → Bool) (fits : S → E →
   named?-iff l =
       let g = good?-iff (depAt other dep log) (fitsAt other fits log) count ss is in
       (λ h. good-named l (g .0 h), λ h. g .1 (named-good h))
+
+module _ {E S : Type 0} (dep : E → E → Bool) (fits : S → E → Bool) where
+  -- the numbers named stay so when events follow
+  pub named-append : {ss : List S} {log : List E} {count : ℕ} {is : List ℕ} (later : List E) → Named dep fits ss log count is
+      → Named dep fits ss (log ++ later) count is
+  named-append {log = log} {is = is} later h =
+      record {
+        distinct = h .distinct;
+        fitting = each-map (λ s i m r. (r .0, numbered-append later (r .1), r .2)) (h .fitting);
+        within = h .within;
+        apart = pairs-map (λ x y m k d b. d (comes-shrink dep log later (listed x m) b)) (h .apart);
+      }
+    where
+      listed : (i : ℕ) → Mem i is → i ≤ length log
+      listed i m = numbered-among (each-mem (h .fitting) m .2 .1) .1
