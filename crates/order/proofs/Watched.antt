@@ -8,20 +8,19 @@ use mathlib.Core.Logic.{_↔_}
 use mathlib.Core.Bool.{Bool, true, false, cond, false≢true}
 use mathlib.Core.List.{List, [], _∷_, _++_, reverse, reverse-cons}
 use lib.Dec.{eqb, ltb}
-use lib.ListN.{length, getD, length-append, length-reverse}
-use borrow.Author.Tests.{eqb-true, eqb-false, lt-ltb, ltb-true, ltb-false, le-leb, leb-true}
+use lib.ListN.{length, length-append, length-reverse}
+use borrow.Author.Tests.{eqb-true, eqb-false, lt-ltb, ltb-true, ltb-false}
 use Rattle.event.proofs.Tests.{by-test}
 use Rattle.event.specs.declared.Event.{Event}
 use Rattle.event.specs.Limits.{threads}
 use Rattle.trace.specs.Before.{Numbered, same, chain}
 use Rattle.trace.specs.Tuples.{eventAt}
 use Rattle.trace.proofs.Numbers.{numbered-among, numbered-append, numbered-shrink, numbered-at, at-numbered, event-new, comes-shrink}
-use Rattle.trace.proofs.Stamps.{stamp-append, stamp-is, stamp-unique, comes-by-stamp}
 use Rattle.dependence.specs.Dependence.{dependent}
-use Rattle.dependence.specs.Order.{ComesBefore, IsStamp, threadOf}
-use Rattle.dependence.proofs.Dependent.{one-thread}
+use Rattle.dependence.specs.Order.{ComesBefore, IsStamp}
 use Rattle.clock.specs.declared.Stamp.{Stamp}
 use Rattle.clock.specs.Clocks.{comesBefore}
+use Rattle.clock.proofs.OrderQuery.{count-stays, comes-by-place}
 use Rattle.clock.specs.Arrivals.{StampOf, ClocksOf, Arrived}
 use Rattle.log.specs.Whole.{readLog, accepted}
 use Rattle.order.specs.declared.Watch.{Watch}
@@ -80,12 +79,6 @@ module _ (es : List Event) (i j : ℕ) (w : Watch) (h : Watched es i j w) (e : E
       let u : k ≤ n = rw size at (numbered-among x .1) in
       numbered-shrink es (e ∷ []) (omega arith) x
 
-  count-stays : (k t c : ℕ) (a : Event) → Numbered es k a → IsStamp es k t c → IsStamp longer k t c
-  count-stays k t c a x y =
-      let u = numbered-among x in
-      let q = stamp-append e dependent threadOf es (e ∷ []) k t (u .1) ∙ stamp-unique e dependent threadOf es k t c u y in
-      rw (sym q) (stamp-is e dependent threadOf longer k t (numbered-among (numbered-append (e ∷ []) x)))
-
   -- the first event asked for, once this one has been met
   record Met (v : Watch) : Type 0 where
     first : v .first ≡ i
@@ -113,34 +106,16 @@ module _ (es : List Event) (i j : ℕ) (w : Watch) (h : Watched es i j w) (e : E
         place = λ a x.
             let y = older i a (λ p. eqb-false _ _ q (p ∙ sym (h .first))) x in
             let r = h .place a y in
-            (r .0, r .1, count-stays i (a .thread) (w .place) a y (r .2));
+            (r .0, r .1, count-stays es (e ∷ []) i (a .thread) (w .place) a y (r .2));
         kept = refl;
       }))
 
   -- two places compared, by the stamp that this event has
   by-answer : (v : Watch) → Met v → 0 < i → i ≤ n → (comesBefore (v .thread) (v .place) s ≡ true) ↔ ComesBefore longer i n
-  by-answer v m p l = rw (k .0) (there, back)
-    where
-      u : IsNumber longer i
-      u = (p, rw size l)
-
-      a : Event
-      a = eventAt e longer i
-
-      x : Numbered longer i a
-      x = at-numbered e longer i u
-
-      k : (v .thread ≡ a .thread) × (a .thread < threads) × IsStamp longer i (a .thread) (v .place)
-      k = m .place a x
-
-      c : ComesBefore longer i n ↔ (v .place ≤ getD (s .at) (a .thread) 0)
-      c = comes-by-stamp dependent threadOf one-thread longer i n a (v .place) (getD (s .at) (a .thread) 0) x (omega arith, rw size (le-refl n)) (k .2) (st (a .thread) (k .1))
-
-      there : comesBefore (a .thread) (v .place) s ≡ true → ComesBefore longer i n
-      there t = c .1 (leb-true _ _ (rw (lt-ltb (a .thread) threads (k .1)) at t))
-
-      back : ComesBefore longer i n → comesBefore (a .thread) (v .place) s ≡ true
-      back t = rw (lt-ltb (a .thread) threads (k .1)) (le-leb _ _ (c .0 t))
+  by-answer v m p l =
+      let x = at-numbered e longer i (p, rw size l) in
+      let k = m .place (eventAt e longer i) x in
+      rw (k .0) (comes-by-place longer i n (eventAt e longer i) (eventAt e longer n) (v .place) s x (at-numbered e longer n (omega arith, rw size (le-refl n))) (k .1) (k .2) st)
 
   judged-is : (v : Watch) → Met v → Watched longer i j (judged v n s)
   judged-is v m =
