@@ -53,7 +53,7 @@ fn run_on(p: Pattern, log: &[u8]) -> Judged
     let keys = table::keys(slots);
     let mut at: usize = 0;
     loop {
-        // What `log::step` does, in place: a call of it for each event would make a run half as long again.
+        // What `log::step` does, in place, by the laws of a step (docs/DECISIONS.md, 29).
         let read = command::decode(log, at, true);
         let Decoded::Command { event, next } = read else {
             let Decoded::Refused { number, offset } = read else {
