@@ -1,4 +1,4 @@
--- Document 01's orders, matches, counts and stamps: what crate `trace` defines for any events and slots, at the events of a log,
+-- Document 01's orders, matches, counts, first example and stamps: what crate `trace` defines for any events and slots, at the events of a log,
 -- those of them that are dependent, and those that fit a slot.
 -- Assumes nothing.
 use Prim.Native.Nat.{ℕ}
@@ -9,6 +9,7 @@ use Rattle.event.specs.Slots.{fits}
 use Rattle.trace.specs.Swaps as swaps
 use Rattle.trace.specs.Before as numbers
 use Rattle.trace.specs.Match as patterns
+use Rattle.trace.specs.First as first
 use Rattle.trace.specs.Stamps as stamps
 use Rattle.dependence.specs.Dependence.{dependent}
 
@@ -34,6 +35,11 @@ IsCount = patterns.IsCount dependent fits
 -- does the later slot's event come before or equal the earlier's.": a pattern, a list, the count, and the numbers
 abbrev pub Named : List Slot → List Event → ℕ → List ℕ → Type 0
 Named = patterns.Named dependent fits
+
+-- "among all lists of events, in slot order, that satisfy the rule within the reported count, the one smallest at the first place
+-- where they differ": a pattern, a list, the count, and the numbers
+abbrev pub IsFirst : List Slot → List Event → ℕ → List ℕ → Type 0
+IsFirst = first.IsFirst dependent fits
 
 abbrev pub threadOf : Event → ℕ
 threadOf e = e .thread

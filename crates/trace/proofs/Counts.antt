@@ -65,11 +65,11 @@ abbrev pub lowest : (ℕ → Bool) → ℕ → ℕ
 lowest p zero = zero
 lowest p (suc n) = or-else (lowest p n) (cond (p (suc n)) (suc n) zero)
 
-data Lowest (p : ℕ → Bool) (n : ℕ) : ℕ → Type 0 where
+pub data Lowest (p : ℕ → Bool) (n : ℕ) : ℕ → Type 0 where
   at : {k : ℕ} → suc k ≤ n → p (suc k) ≡ true → ((m : ℕ) → 1 ≤ m → m < suc k → p m ≡ false) → Lowest p n (suc k)
   nowhere : ((m : ℕ) → 1 ≤ m → m ≤ n → p m ≡ false) → Lowest p n zero
 
-lowest-is : (p : ℕ → Bool) (n : ℕ) → Lowest p n (lowest p n)
+pub lowest-is : (p : ℕ → Bool) (n : ℕ) → Lowest p n (lowest p n)
 lowest-is p zero = nowhere (λ m l u. absurd (omega arith))
 lowest-is p (suc n) = go (lowest-is p n) (true-or-false (p (suc n)))
   where

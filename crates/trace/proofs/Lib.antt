@@ -24,8 +24,14 @@ pub mod Masks
 pub mod Arrivals
 pub mod Maxima
 pub mod Verdict
+-- the first example, chosen slot by slot
+pub mod FirstChoice
+pub mod First
 -- stamps, and the clocks that compute them
 pub mod Tallies
 pub mod Stamps
 pub mod Clocks
 pub mod Channels
+-- the first example in one pass
+pub mod FirstScan
+pub mod FirstArrivals

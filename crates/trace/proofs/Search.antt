@@ -26,17 +26,17 @@ module _ {S : Type 0} (dep : ℕ → ℕ → Bool) (fits : S → ℕ → Bool) (
   found [] chosen = true
   found (s ∷ ss) chosen = any (λ e. found ss (e ∷ chosen)) (filter (may s chosen) (run 1 n))
 
-  abbrev Clear : List ℕ → List ℕ → Type 0
+  abbrev pub Clear : List ℕ → List ℕ → Type 0
   Clear es chosen = (e : ℕ) → Mem e es → (c : ℕ) → Mem c chosen → ¬ Before dep e c
 
-  may-clear : (s : S) (chosen : List ℕ) (e : ℕ) → may s chosen e ≡ true
+  pub may-clear : (s : S) (chosen : List ℕ) (e : ℕ) → may s chosen e ≡ true
       → (fits s e ≡ true) × ((c : ℕ) → Mem c chosen → ¬ Before dep e c)
   may-clear s chosen e h =
       let r = and-eq-true-iff (fits s e) (not (any (λ c. before dep e c) chosen)) .0 h in
       let f = not-true (any (λ c. before dep e c) chosen) (r .1) in
       (r .0, λ c m b. any-false (λ c. before dep e c) chosen f m (true-before dep b))
 
-  clear-may : (s : S) (chosen : List ℕ) (e : ℕ) → (fits s e ≡ true) → ((c : ℕ) → Mem c chosen → ¬ Before dep e c)
+  pub clear-may : (s : S) (chosen : List ℕ) (e : ℕ) → (fits s e ≡ true) → ((c : ℕ) → Mem c chosen → ¬ Before dep e c)
       → may s chosen e ≡ true
   clear-may s chosen e f h =
       and-eq-true-iff (fits s e) (not (any (λ c. before dep e c) chosen)) .1

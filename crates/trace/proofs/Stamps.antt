@@ -103,21 +103,19 @@ module _ {n : ℕ} {dep dep′ : ℕ → ℕ → Bool} {thread thread′ : ℕ �
       each : (k : ℕ) → Among j k → eqb (thread k) t && before dep k j ≡ eqb (thread′ k) t && before dep′ k j
       each k u = rw (alike k (omega arith), before-same agree k j l)
 
+-- and no place
+pub place-carry : {n : ℕ} {thread thread′ : ℕ → ℕ} → ((i : ℕ) → i ≤ n → thread i ≡ thread′ i) → (i : ℕ) → i ≤ n
+    → place thread i ≡ place thread′ i
+unfolding place
+place-carry {n} {thread} {thread′} alike i l =
+    tally-same (λ k. eqb (thread k) (thread i)) (λ k. eqb (thread′ k) (thread′ i)) i
+    (λ k u. ap₂ eqb (alike k (omega arith)) (alike i l))
+
 -- ---- stamps of a list of events
 
-module _ {E : Type 0} (other : E) (thread : E → ℕ) where
-  pub place-append : (log later : List E) (i : ℕ) → i ≤ length log
-      → place (threadAt other thread (log ++ later)) i ≡ place (threadAt other thread log) i
-  unfolding place
-  place-append log later i l =
-      tally-same (λ k. eqb (at (log ++ later) k) (at (log ++ later) i)) (λ k. eqb (at log k) (at log i)) i each
-    where
-      at : List E → ℕ → ℕ
-      at = threadAt other thread
-
-      each : (k : ℕ) → Among i k → eqb (at (log ++ later) k) (at (log ++ later) i) ≡ eqb (at log k) (at log i)
-      each k u =
-          ap₂ (λ a b. eqb (thread a) (thread b)) (event-append other log later k (omega arith)) (event-append other log later i l)
+pub place-append : {E : Type 0} (other : E) (thread : E → ℕ) (log later : List E) (i : ℕ) → i ≤ length log
+    → place (threadAt other thread (log ++ later)) i ≡ place (threadAt other thread log) i
+place-append other thread log later i l = place-carry (λ k p. ap thread (event-append other log later k p)) i l
 
 module _ {E : Type 0} (other : E) (dep : E → E → Bool) (thread : E → ℕ) where
   -- the stamp of event number j, at the thread t
