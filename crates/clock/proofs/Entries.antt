@@ -58,10 +58,10 @@ module _ (xs : List ℕ) (f : ℕ) (ys : List ℕ) (g : ℕ) where
 abbrev pub highestOf : List ℕ → ℕ → Rows → ℕ → ℕ
 highestOf clocks t r u = max (max (getD clocks (rowOf (thread t) + u) 0) (getD clocks (r .first + u) 0)) (getD clocks (r .second + u) 0)
 
-heard-length : (s : Stamp) (clocks : List ℕ) (f : ℕ) → length (s .at) ≡ threads → length (heardFrom s clocks f .at) ≡ threads
+pub heard-length : (s : Stamp) (clocks : List ℕ) (f : ℕ) → length (s .at) ≡ threads → length (heardFrom s clocks f .at) ≡ threads
 heard-length s clocks f whole = raised-length (s .at) 0 clocks f threads ∙ whole
 
-heard-from : (s : Stamp) (clocks : List ℕ) (f u : ℕ) → length (s .at) ≡ threads → u < threads
+pub heard-from : (s : Stamp) (clocks : List ℕ) (f u : ℕ) → length (s .at) ≡ threads → u < threads
     → getD (heardFrom s clocks f .at) u 0 ≡ max (getD (s .at) u 0) (getD clocks (f + u) 0)
 heard-from s clocks f u whole low = rw zero-add at (raised-inside (s .at) 0 clocks f threads u low (omega arith))
 

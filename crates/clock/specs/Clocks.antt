@@ -77,6 +77,16 @@ stampBy clocks e = cond (withinLimits e) (heard clocks (e .thread) (rowsOf e)) n
 unfoldable pub clocksAfter : List ℕ → Event → List ℕ
 clocksAfter clocks e = cond (withinLimits e) (told clocks (e .thread) (rowsOf e) (stampBy clocks e)) clocks
 
+-- ---- stamps
+
+-- the higher count of each thread in two of them
+abbrev pub higherOf : Stamp → Stamp → Stamp
+higherOf a b = heardFrom a (b .at) 0
+
+-- how many events of the thread t a stamp counts; 0 where there is no such thread
+abbrev pub countOf : ℕ → Stamp → ℕ
+countOf t s = cond (ltb t threads) (getD (s .at) t 0) 0
+
 -- ---- an order query
 
 -- the event that was number `place` of the thread t, counted from 1, comes before the one stamped `later` or is it

@@ -14,7 +14,7 @@ ghost use Rattle.event.specs.Range.{rangeRefusal};
 ghost use Rattle.event.specs.Effects.{touches};
 ghost use Rattle.dependence.specs.Channels.{thread, readsOf, writesOf, lockOf};
 ghost use Rattle.clock.specs.Rows.{size, rowOf, besideOf, rowsFor};
-ghost use Rattle.clock.specs.Clocks.{up, tickedAt, heardFrom, toldTo, heard, stampBy, clocksAfter, comesBefore};
+ghost use Rattle.clock.specs.Clocks.{up, tickedAt, heardFrom, toldTo, heard, stampBy, clocksAfter, higherOf, countOf, comesBefore};
 ghost use Rattle.clock.specs.Arrivals.{ClocksOf, Arrived};
 
 // A row has an entry for each thread. There is a row for each thread, for the reads and for the writes of each variable, and for each lock.
@@ -175,7 +175,7 @@ fn tell(clocks: &mut [u16; CLOCKS], to: usize, s: Stamp)
     }
 }
 
-fn larger(x: u16, y: u16) -> u16
+pub fn larger(x: u16, y: u16) -> u16
     ensures { λ r. ⌜ r ≡ max x y ⌝ }
 {
     if x < y { y } else { x }
@@ -195,13 +195,36 @@ fn tick(s: Stamp, t: usize) -> Stamp
 }
 
 // One more for an event of the own thread, so far as a count goes.
-fn next_count(x: u16, own: bool) -> u16
+pub fn next_count(x: u16, own: bool) -> u16
     ensures { λ r. ⌜ r ≡ cond own (up x) x ⌝ }
 {
     if !own {
         return x;
     }
     if x < HIGHEST { x + 1 } else { x }
+}
+
+// The higher count of each thread in two stamps.
+pub fn join(a: Stamp, b: Stamp) -> Stamp
+    ensures { λ r. ⌜ r ≡ higherOf a b ⌝ }
+{
+    let mut r = a;
+    for i in 0..THREADS {
+        let count = larger(r.at[i], b.at[i]);
+        r.at[i] = count;
+    }
+    r
+}
+
+// How many events of a thread a stamp counts; 0 where there is no such thread.
+pub fn count_of(thread: u8, s: Stamp) -> u16
+    ensures { λ r. ⌜ r ≡ countOf thread s ⌝ }
+{
+    let i = thread as usize;
+    if i >= THREADS {
+        return 0;
+    }
+    s.at[i]
 }
 
 // Whether the event that was number `place` of its thread, counted from 1, comes before the one stamped `later` or is it.

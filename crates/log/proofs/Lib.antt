@@ -7,3 +7,4 @@ pub mod LogRoundTrip
 pub mod PatternRoundTrip
 pub mod Writes
 pub mod Numbering
+pub mod Leading

@@ -1,4 +1,5 @@
 pub mod Whole
 pub mod Step
 pub mod Calls
+pub mod Leading
 pub mod Number

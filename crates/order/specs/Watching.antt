@@ -5,19 +5,15 @@ use lib.Dec.{eqb, ltb}
 use lib.ListN.{getD}
 use Rattle.event.specs.Limits.{threads}
 use Rattle.clock.specs.declared.Stamp.{Stamp}
-use Rattle.clock.specs.Clocks.{comesBefore}
+use Rattle.clock.specs.Clocks.{countOf, comesBefore}
 use Rattle.order.specs.declared.Watch.{Watch}
 use Rattle.order.specs.Query.{OrderAnswer, yes, no, query-refused}
-
--- the count of the thread's own events in a stamp
-abbrev pub ownCount : ℕ → Stamp → ℕ
-ownCount t s = cond (ltb t threads) (getD (s .at) t 0) 0
 
 -- event number n, of thread t, with this stamp: if it is the first that was asked for, its thread and place are kept
 abbrev pub met : Watch → ℕ → ℕ → Stamp → Watch
 met w n t s =
     cond (eqb n (w .first))
-    (record { first = w .first; second = w .second; thread = t; place = ownCount t s; yes = w .yes })
+    (record { first = w .first; second = w .second; thread = t; place = countOf t s; yes = w .yes })
     w
 
 -- if it is the second, and the first has come, the answer is kept

@@ -3,7 +3,7 @@ use clock::Stamp;
 use log::Stepped;
 ghost use mathlib.Core.Path.{_≡_};
 ghost use Rattle.order.specs.Query.{Answers, orderIs};
-ghost use Rattle.order.specs.Watching.{ownCount, met, judged, seen, answered};
+ghost use Rattle.order.specs.Watching.{met, judged, seen, answered};
 
 pub enum Order {
     Yes,
@@ -67,7 +67,7 @@ impl Watch {
             return self;
         }
         self.thread = t;
-        self.place = own_count(t, stamp);
+        self.place = clock::count_of(t, stamp);
         self
     }
 
@@ -117,14 +117,4 @@ impl Watch {
         }
         Order::No
     }
-}
-
-fn own_count(t: u8, stamp: Stamp) -> u16
-    ensures { λ r. ⌜ r ≡ ownCount t stamp ⌝ }
-{
-    let i = t as usize;
-    if i >= clock::THREADS {
-        return 0;
-    }
-    stamp.at[i]
 }

@@ -1,7 +1,7 @@
 use borrow.Author.Tests.{lt-ltb, le-ltb}
 use borrow.Author.Needs.{needs}
-use Rattle.order.proofs.own_count.Statement.{statement}
-use Rattle.order.proofs.own_count.Tie as tie
+use Rattle.clock.proofs.count_of.Statement.{statement}
+use Rattle.clock.proofs.count_of.Tie as tie
 
 returns : tie.Need-returns
 returns c = rw (le-ltb _ _ (c .if1 .taken))
@@ -15,5 +15,5 @@ element-copy-out-result c = search needs
 returns-2 : tie.Need-returns-2
 returns-2 c = rw (lt-ltb _ _ (c .before .if1 .left))
 
-pub own-count-spec : {M : Type 1} → statement M
-own-count-spec = tie.close (tie.spec returns mul-result element-copy-out-result returns-2)
+pub count-of-spec : {M : Type 1} → statement M
+count-of-spec = tie.close (tie.spec returns mul-result element-copy-out-result returns-2)

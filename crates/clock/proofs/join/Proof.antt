@@ -1,0 +1,74 @@
+use Prim.Native.Nat.{ℕ, _≤_, _-_}
+use mathlib.Core.List.{List}
+use native.Mathlib.Omega.{arith}
+use mathlib.Core.Path.{_≡_, refl, ap}
+use native.Mathlib.Nat.{zero-add}
+use native.Mathlib.Numerals.{add-one}
+use Rattle.event.specs.Limits.{threads}
+use Rattle.clock.specs.Clocks.{raised}
+use borrow.Author.Needs.{needs}
+use Rattle.clock.proofs.join.Statement.{statement}
+use Rattle.clock.proofs.join.Tie as tie
+
+abbrev Inv-loop : tie.InvT-loop
+Inv-loop b r₀ i₀ r i = (i ≤ threads) × (r .at ≡ raised i (r₀ .at) 0 (b .at) 0)
+
+abbrev μ-loop : tie.MeasureT-loop
+μ-loop b r₀ i₀ r i = threads - i
+
+loop-holds : tie.Need-loop-holds Inv-loop μ-loop
+unfolding raised
+loop-holds c = (search needs, refl)
+
+mul-larger : tie.Need-mul-larger Inv-loop μ-loop
+mul-larger c = search needs
+
+element-copy-out-larger : tie.Need-element-copy-out-larger Inv-loop μ-loop
+element-copy-out-larger c = search needs
+
+mul-larger-2 : tie.Need-mul-larger-2 Inv-loop μ-loop
+mul-larger-2 c = search needs
+
+element-copy-out-larger-2 : tie.Need-element-copy-out-larger-2 Inv-loop μ-loop
+element-copy-out-larger-2 c = search needs
+
+larger-requires : tie.Need-larger-requires Inv-loop μ-loop
+larger-requires c κs = search needs
+
+mul-r : tie.Need-mul-r Inv-loop μ-loop
+mul-r c = search needs
+
+element-write-r : tie.Need-element-write-r Inv-loop μ-loop
+element-write-r c = search needs
+
+add-i : tie.Need-add-i Inv-loop μ-loop
+add-i c = search needs
+
+loop-less : tie.Need-loop-less Inv-loop μ-loop
+loop-less c = search needs
+
+loop-again : tie.Need-loop-again Inv-loop μ-loop
+unfolding raised
+loop-again c = (search needs, rw (add-one, zero-add, c .larger .ensures, c .before .before .before .before .loop .inv .1))
+
+returns : tie.Need-returns Inv-loop μ-loop
+returns c = let k : c .before .loop .i ≡ threads = omega arith in ap (λ (xs : List ℕ). record { at = xs }) (rw k at (c .before .loop .inv .1))
+
+pub join-spec : {M : Type 1} → statement M
+join-spec =
+    tie.close
+    (tie.spec
+    Inv-loop
+    μ-loop
+    loop-holds
+    mul-larger
+    element-copy-out-larger
+    mul-larger-2
+    element-copy-out-larger-2
+    larger-requires
+    mul-r
+    element-write-r
+    add-i
+    loop-less
+    loop-again
+    returns)
