@@ -52,7 +52,7 @@ extern "C" {
 #endif
 
 /* Raised whenever an answer or the layout of a session changes; bilguzor_version gives that of the library that is linked. */
-#define BILGUZOR_VERSION 2
+#define BILGUZOR_VERSION 3
 
 #define BILGUZOR_SLOTS 5
 
@@ -85,7 +85,8 @@ enum bilguzor_kind {
 typedef struct bilguzor_judgement {
     uint8_t kind; /* BILGUZOR_NO, BILGUZOR_YES, BILGUZOR_PATTERN_REFUSED or BILGUZOR_LOG_REFUSED */
     uint8_t number; /* of the refusal; 0 without one */
-    uint16_t events[BILGUZOR_SLOTS]; /* with a match, the number of the event for each slot, counted from 1; 0 beyond the pattern and without a match */
+    uint16_t events[BILGUZOR_SLOTS]; /* with a match, the number of the event for each slot, counted from 1: of a run the first such list, smallest at
+                                        the first place where two differ; of a session one that it chose; 0 beyond the pattern and without a match */
     size_t count; /* with a match, the smallest number of leading events that suffices; else 0 */
     size_t offset; /* of the refusal; 0 without one */
 } bilguzor_judgement;

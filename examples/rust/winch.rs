@@ -69,7 +69,7 @@ extern "C" {
     fn bilguzor_version() -> u32;
 }
 
-const VERSION: u32 = 2;
+const VERSION: u32 = 3;
 
 const NO: u8 = 0;
 const YES: u8 = 1;

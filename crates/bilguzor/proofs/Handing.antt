@@ -24,7 +24,7 @@ use Rattle.session.specs.declared.Found.{Found}
 use Rattle.session.specs.declared.Found.the-variants.{Match, None}
 use Rattle.run.specs.declared.Outcome as run
 use Rattle.session.specs.Answers.{refusal, answerIs, foundIs, nothing, Given}
-use Rattle.run.specs.Answers.{outcomeIs, asOutcome}
+use Rattle.run.specs.Answers.{outcomeIs}
 use Rattle.session.specs.Model.{slotsUsed, freshOn, Kept, keptOf, sessionOn, keptAfter, answerBy, handed, foundAt}
 use Rattle.session.specs.Meaning.{takenBy, Describes, VerdictOf, OpenedOn}
 use Rattle.session.proofs.Described.{fresh-described, used-good, handed-described, verdict-described}
@@ -33,7 +33,7 @@ use Rattle.bilguzor.specs.declared.Answer.{Answer}
 use Rattle.bilguzor.specs.declared.Judgement.{Judgement}
 use Rattle.bilguzor.specs.declared.Opening.{Opening}
 use Rattle.bilguzor.specs.declared.Parts.{Parts}
-use Rattle.bilguzor.specs.Numbers.{judgementOf}
+use Rattle.bilguzor.specs.Numbers.{judgementOf, asOutcome}
 use Rattle.bilguzor.specs.Parts.{partsOf, keptIn, partsWith, actingIn, fittingIn}
 use Rattle.bilguzor.specs.Sessions.{InParts, openingFrom, openedParts, openingOf, Numbers, handedOver, noOperation, eventFrom, unfitBy, numberIn, partsAfter, refusalOf, takenWith, Takes, rulingIn}
 use Rattle.bilguzor.proofs.Events.{Operates, operates, unfit-number, fit}

@@ -17,10 +17,11 @@ use Rattle.command.specs.Bytes.{Bytes}
 use Rattle.command.specs.Reading.{operationOf}
 use Rattle.session.specs.Answers.{Refused, nothing}
 use Rattle.session.specs.History as session
-use Rattle.session.proofs.Demand.{same-verdict, every-run as run-demand}
+use Rattle.session.proofs.Demand.{same-verdict, run-over, every-run as run-demand}
 use Rattle.dependence.specs.Order.{Reaches, HasMatch}
 use Rattle.dependence.proofs.Reached.{order-reached}
-use Rattle.log.specs.Whole.{readPattern}
+use Rattle.log.specs.Whole.{logBytes, readPattern}
+use Rattle.log.proofs.LogRoundTrip.{log-read}
 use Rattle.session.specs.Model.{slotsUsed}
 use Rattle.bilguzor.specs.declared.Judgement.{Judgement}
 use Rattle.bilguzor.specs.declared.Parts.{Parts}
@@ -105,11 +106,15 @@ every-history bytes b numbers =
     same-answer order ordered =
         let taken = in-order [] order (ordered .0) in
         let again = start (map inNumbers order) in
+        let alike : HasMatch ss order ↔ HasMatch ss (takenAll [] numbers) = (ordered .1 .1, ordered .1 .0) in
         record {
           accepted-too = ordered .0;
           each-taken = again .0 ∙ taken .1;
           all-taken = taken .0;
-          same = same-verdict ss order (takenAll [] numbers) (ordered .1 .1, ordered .1 .0) _ _ (rw (taken .0) at (said ss _ _ (again .1))) (said ss _ _ (all .1));
+          same = same-verdict ss order (takenAll [] numbers) alike _ _ (rw (taken .0) at (said ss _ _ (again .1))) (said ss _ _ (all .1));
+          run-same = λ heights pattern q r k.
+              let v = run-over ss order pattern (logBytes order) q (log-read order (ordered .0) heights) (k .given) (k .run) in
+              ap (λ x. x .kind) (k .numbers) ∙ ap₂ kindOf (v .0) (same-verdict ss order (takenAll [] numbers) alike _ _ (v .1) (said ss _ _ (all .1)));
         }
 
 -- ---- every run

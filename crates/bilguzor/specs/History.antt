@@ -9,13 +9,14 @@ use Rattle.event.specs.declared.Operation.the-variants.{Read, Write, Acquire, R
 use Rattle.event.specs.declared.Event.{Event}
 use Rattle.event.specs.Slots.{byteOf, objectOf, withoutHeight}
 use Rattle.rules.specs.Accepted.{Accepted}
-use Rattle.log.specs.Whole.{accepted, logBytes, readLog, readPattern}
+use Rattle.log.specs.Whole.{Heights, accepted, logBytes, readLog, readPattern}
 use Rattle.dependence.specs.Order.{Reaches}
+use Rattle.session.specs.Answers.{nothing}
 use Rattle.session.specs.Model.{slotsUsed}
 use Rattle.session.specs.Meaning.{VerdictOf}
 use Rattle.bilguzor.specs.declared.Judgement.{Judgement}
 use Rattle.bilguzor.specs.declared.Parts.{Parts}
-use Rattle.bilguzor.specs.Numbers.{RunNumbers}
+use Rattle.bilguzor.specs.Numbers.{kindOf, RunNumbers}
 use Rattle.bilguzor.specs.Sessions.{openedParts, Numbers, handedOver, numberIn, partsAfter, refusalOf, takenWith, saidIn}
 
 -- the parts, and the number that each event gets, handed over one after another
@@ -50,12 +51,16 @@ heightIn (Mark m) = pos 0
 abbrev pub inNumbers : Event → Numbers
 inNumbers e = handedOver (e .thread) (byteOf (withoutHeight (e .operation))) (objectOf (withoutHeight (e .operation))) (heightIn (e .operation))
 
--- "All orders so reached are accepted and get the same answer, match or none.": an order of the events taken, handed over in numbers
+-- "All orders so reached are accepted and get the same answer, match or none.": "The answer of an order is that of a session opened afresh on the same
+-- pattern and handed the order's events, each of which it takes, and that of a run over the log that holds them.": an order of the events taken,
+-- handed over in numbers, and the kind of a run on a pattern with the session's slots
 pub record SameAnswer (bytes : List ℕ) (numbers : List Numbers) (order : List Event) : Type 0 where
   pub accepted-too : Accepted order
   pub each-taken : answersAll (openedParts bytes) (map inNumbers order) ≡ replicate (length order) 0
   pub all-taken : takenAll [] (map inNumbers order) ≡ order
   pub same : saidIn (partsAll (openedParts bytes) (map inNumbers order)) .matches ≡ saidIn (partsAll (openedParts bytes) numbers) .matches
+  pub run-same : Heights order → (pattern : List ℕ) → readPattern pattern ≡ accepted (slotsUsed (readPattern bytes)) → (r : Judgement)
+      → RunNumbers pattern (logBytes order) r → r .kind ≡ kindOf nothing (saidIn (partsAll (openedParts bytes) numbers) .matches)
 
 -- "For every list of events, good or bad, handed one after another to a session fresh from its opening": the number of each, the events taken,
 -- "after each event", each list being the leading part of longer ones, the verdict; and every order reached from the events taken

@@ -5,6 +5,10 @@ use mathlib.Core.Bool.{Bool, cond}
 use mathlib.Core.List.{List}
 use Rattle.session.specs.Answers.{Refused, nothing, Given}
 use Rattle.session.specs.Meaning.{RunOf}
+use Rattle.session.specs.declared.Found.{Found}
+use Rattle.session.specs.declared.Found.the-variants as found
+use Rattle.run.specs.declared.Outcome.{Outcome}
+use Rattle.run.specs.declared.Outcome.the-variants as outcome
 use Rattle.order.specs.Query.{Answers, yes, no, log-refused, query-refused}
 use Rattle.order.specs.Query as order
 use Rattle.bilguzor.specs.declared.Judgement.{Judgement}
@@ -12,7 +16,7 @@ use Rattle.bilguzor.specs.declared.Ordering.{Ordering}
 
 -- the header's number of this library's answers and layouts
 abbrev pub version : ℕ
-version = 2
+version = 3
 
 -- The kinds: 0 none, 1 a match, 2 the pattern is refused, 3 the log is refused.
 abbrev pub kindOf : Refused → Bool → ℕ
@@ -30,6 +34,11 @@ judgementOf g =
       count = g .ruling .count;
       offset = g .refusal .offset;
     }
+
+-- a session's verdict, in the cases that a run gives
+abbrev pub asOutcome : Found → Outcome
+asOutcome (found.Match n) = outcome.Match n
+asOutcome found.None = outcome.None
 
 -- "A run takes a pattern and a log, both lent.": what it gives, in numbers
 pub record RunNumbers (pattern log : List ℕ) (r : Judgement) : Type 0 where

@@ -71,9 +71,9 @@ given-listed : (pattern bytes : List ℕ) (g : Given) → RunOf pattern bytes g 
 unfolding given-text by-refused
 given-listed pattern bytes g (pattern-refused q) = listing.pattern-refused q
 given-listed pattern bytes g (over-log a (log-refused q)) = listing.log-refused a q
-given-listed pattern bytes g (over-log {ss = ss} a (judged {es = es} {r = r} q v)) =
+given-listed pattern bytes g (over-log {ss = ss} a (judged {es = es} {r = r} q v first)) =
     by-test (r .matches)
-    (λ y. let h = v .matches .0 y in rw y (listing.match a q h (v .count) (v .named h) (lines h)))
+    (λ y. let h = v .matches .0 y in rw y (listing.match a q h (v .count) (first h) (lines h)))
     (λ y. rw y (listing.no-match a q (λ m. false≢true (sym y ∙ v .matches .1 m))))
   where
     lines : HasMatch ss es → SlotLines es 1 (take (length ss) (r .events)) (linesOf bytes 1 (r .events))

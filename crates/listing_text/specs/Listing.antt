@@ -9,7 +9,7 @@ use Rattle.writer.specs.declared.Written.{Written}
 use Rattle.writer.specs.Writing.{writing, writtenIs, bufferAfter}
 use Rattle.log.specs.Whole.{accepted, refused, readLog, readPattern}
 use Rattle.trace.specs.Before.{Numbered}
-use Rattle.dependence.specs.Order.{HasMatch, IsCount, Named}
+use Rattle.dependence.specs.Order.{HasMatch, IsCount, IsFirst}
 use Rattle.listing_text.specs.Text.{slotLine, refusalLine, patternRefusalLine, noMatchLine, matchLine, tooLongLine}
 
 -- "each at most 65,536 bytes"
@@ -21,14 +21,15 @@ pub data SlotLines (es : List Event) : ℕ → List ℕ → List ℕ → Type 0 
   none : {slot : ℕ} → SlotLines es slot [] []
   line : {slot n : ℕ} {e : Event} {ns rest : List ℕ} → Numbered es n e → SlotLines es (slot + 1) ns rest → SlotLines es slot (n ∷ ns) (slotLine slot n e ++ rest)
 
--- of a pattern and a log, neither too long
+-- of a pattern and a log, neither too long. With a match the events shown are the first list: "among all lists of events, in slot order,
+-- that satisfy the rule within the reported count, the one smallest at the first place where they differ"
 pub data Judged (pattern log : List ℕ) : List ℕ → Type 0 where
   pattern-refused : {k o : ℕ} → readPattern pattern ≡ refused k o → Judged pattern log (patternRefusalLine k o)
   log-refused : {ss : List Slot} {k o : ℕ} → readPattern pattern ≡ accepted ss → readLog log ≡ refused k o → Judged pattern log (refusalLine k o)
   no-match : {ss : List Slot} {es : List Event} → readPattern pattern ≡ accepted ss → readLog log ≡ accepted es → ¬ HasMatch ss es
       → Judged pattern log noMatchLine
   match : {ss : List Slot} {es : List Event} {n : ℕ} {numbers lines : List ℕ} → readPattern pattern ≡ accepted ss → readLog log ≡ accepted es
-      → HasMatch ss es → IsCount ss es n → Named ss es n numbers → SlotLines es 1 numbers lines → Judged pattern log (matchLine n ++ lines)
+      → HasMatch ss es → IsCount ss es n → IsFirst ss es n numbers → SlotLines es 1 numbers lines → Judged pattern log (matchLine n ++ lines)
 
 -- "if either is longer it prints `too long` alone"
 pub data Listing (pattern log : List ℕ) : List ℕ → Type 0 where

@@ -1,10 +1,9 @@
 -- What each case of a run's answer stands for: the document's number and values.
-use Prim.Native.Nat.{ℕ}
-use mathlib.Core.Bool.{true, false}
+use Prim.Native.Nat.{ℕ, zero, suc, max}
+use mathlib.Core.Bool.{Bool, true, false, cond}
 use mathlib.Core.List.{List}
-use Rattle.session.specs.declared.Found.{Found}
-use Rattle.session.specs.declared.Found.the-variants.{Match, None}
-use Rattle.session.specs.declared.Verdict.{Verdict}
+use lib.ListN.{getD, replicate}
+use Rattle.event.specs.Limits.{slots as slotLimit}
 use Rattle.session.specs.Answers.{refusal, nothing, pattern, log, Given}
 use Rattle.run.specs.declared.Outcome.{Outcome}
 use Rattle.run.specs.declared.Outcome.the-variants as outcome
@@ -21,10 +20,14 @@ outcomeIs (outcome.LogRefused k o) events =
 abbrev pub judgedIs : Judged → Given
 judgedIs j = outcomeIs (j .outcome) (j .numbers)
 
--- a verdict as a run gives it
-abbrev pub asOutcome : Found → Outcome
-asOutcome (Match n) = outcome.Match n
-asOutcome None = outcome.None
+-- the greatest of the first n numbers
+unfoldable pub greatestOf : ℕ → List ℕ → ℕ
+greatestOf zero numbers = 0
+greatestOf (suc n) numbers = max (getD numbers n 0) (greatestOf n numbers)
 
-abbrev pub judgedBy : Verdict → Judged
-judgedBy v = record { outcome = asOutcome (v .found); numbers = v .numbers }
+-- what a run gives once the log has passed: the events found and the greatest of their numbers, or none
+abbrev pub judgedBy : Bool → List ℕ → Judged
+judgedBy matches numbers =
+    cond matches
+    (record { outcome = outcome.Match (greatestOf slotLimit numbers); numbers = numbers })
+    (record { outcome = outcome.None; numbers = replicate slotLimit 0 })

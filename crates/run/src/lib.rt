@@ -1,18 +1,13 @@
-// Runs over a whole log: whether some order of its events holds the pattern.
-use command::Decoded;
+// Runs over a whole log: whether some order of its events holds the pattern, and the first events that show it.
 use log::Pattern;
 use log::PatternAnswer;
-use session::Found;
-use session::Session;
-use session::Verdict;
+use log::Stepped;
 ghost use mathlib.Core.Path.{_≡_};
-ghost use mathlib.Core.List.{List};
-ghost use lib.ListN.{replicate};
-ghost use Rattle.event.specs.declared.Slot.{Slot};
+ghost use lib.ListN.{replicate, take};
 ghost use Rattle.event.specs.Limits.{slots as slotLimit};
-ghost use Rattle.log.specs.Whole.{GoodPattern, patternOf};
 ghost use Rattle.session.specs.Meaning.{RunOn, RunOf};
-ghost use Rattle.run.specs.Answers.{judgedIs, judgedBy};
+ghost use Rattle.run.specs.Answers.{judgedIs, judgedBy, greatestOf};
+ghost use Rattle.run.specs.Patterns.{Usable};
 
 pub enum Outcome {
     Match { count: usize },
@@ -23,7 +18,7 @@ pub enum Outcome {
 
 pub struct Judged {
     pub outcome: Outcome,
-    pub numbers: [u16; Session::SLOTS],
+    pub numbers: [u16; event::SLOTS],
 }
 
 // Judges a whole log by a pattern.
@@ -36,50 +31,53 @@ pub fn run(pattern: &[u8], log: &[u8]) -> Judged
     match answer {
         PatternAnswer::PatternRefused { number, offset } => Judged {
             outcome: Outcome::PatternRefused { number, offset },
-            numbers: [0; Session::SLOTS],
+            numbers: [0; event::SLOTS],
         },
         PatternAnswer::Accepted { slots: _ } => run_on(p, log),
     }
 }
 
-// Keeps one session in place for the whole log, and lends its parts.
+// One pass over the log: each event goes by the rules, and the first that fits the slot looked for fills it.
 fn run_on(p: Pattern, log: &[u8]) -> Judged
-    ensures { λ r. ⌜ ((ss : List Slot) → GoodPattern ss → p ≡ patternOf ss → RunOn ss (now (log .entry)) (judgedIs r)) ⌝ }
+    requires { ⌜ Usable p ⌝ }
+    ensures { λ r. ⌜ RunOn (take (p .size) (p .slots)) (now (log .entry)) (judgedIs r) ⌝ }
 {
-    let mut z = session::fresh(p);
     let slots = p.slots;
     let size = p.size;
-    let acting = event::threads_of(slots);
-    let keys = table::keys(slots);
+    let wanted = event::numbers_of(slots);
+    let mut state = rules::fresh();
+    let mut clocks = clock::fresh();
+    let mut last = [0u16; event::SLOTS];
+    let mut s = first::none_found(wanted);
+    let mut taken: usize = 0;
     let mut at: usize = 0;
     loop {
-        // What `log::step` does, in place, by the laws of a step (docs/DECISIONS.md, 29).
-        let read = command::decode(log, at, true);
-        let Decoded::Command { event, next } = read else {
-            let Decoded::Refused { number, offset } = read else {
-                return outcome_of(z.verdict());
+        let found = log::step(log, at, &mut state, taken);
+        let Stepped::Event { event, next } = found else {
+            let Stepped::LogRefused { number, offset } = found else {
+                let numbers = s.numbers;
+                return judged_by(s.found == size, numbers);
             };
             return log_refused(number, offset);
         };
-        let taken = z.taken as usize;
-        let k = rules::admit(&mut z.state, taken, event);
-        if k != 0 {
-            return log_refused(k, at);
-        }
-        let n = (taken + 1) as u16;
-        z.taken = n;
-        let here = at;
+        taken += 1;
+        let number = command::number_at(log, at);
         at = next;
-        if z.count != 0 {
+        let stamp = first::follow(s.running, &mut clocks, &mut last, wanted, number, event);
+        if s.want != number {
             continue;
         }
-        let stamp = clock::advance(&mut z.clocks, event);
-        if !table::wants(keys, command::key_at(log, here)) {
-            continue;
-        }
-        let fit = event::fitting(slots, event);
-        table::offer(&mut z.table, acting, fit, size, event.thread, stamp, n);
-        z.count = table::count_at(&z.table, size, n);
+        s = first::choose(
+            log,
+            slots,
+            wanted,
+            size,
+            s,
+            taken,
+            &mut clocks,
+            &mut last,
+            stamp,
+        );
     }
 }
 
@@ -88,23 +86,34 @@ fn log_refused(number: u8, offset: usize) -> Judged
 {
     Judged {
         outcome: Outcome::LogRefused { number, offset },
-        numbers: [0; Session::SLOTS],
+        numbers: [0; event::SLOTS],
     }
 }
 
-fn outcome_of(v: Verdict) -> Judged
-    ensures { λ r. ⌜ r ≡ judgedBy v ⌝ }
+// The verdict of a search: the count is the greatest number.
+fn judged_by(matches: bool, numbers: [u16; event::SLOTS]) -> Judged
+    ensures { λ r. ⌜ r ≡ judgedBy matches numbers ⌝ }
 {
-    let found = v.found;
-    let numbers = v.numbers;
-    match found {
-        Found::Match { count } => Judged {
-            outcome: Outcome::Match { count },
-            numbers,
-        },
-        Found::None => Judged {
+    if !matches {
+        return Judged {
             outcome: Outcome::None,
-            numbers,
-        },
+            numbers: [0; event::SLOTS],
+        };
     }
+    Judged {
+        outcome: Outcome::Match {
+            count: greatest(numbers) as usize,
+        },
+        numbers,
+    }
+}
+
+fn greatest(numbers: [u16; event::SLOTS]) -> u16
+    ensures { λ r. ⌜ r ≡ greatestOf slotLimit numbers ⌝ }
+{
+    let mut most: u16 = 0;
+    for j in 0..event::SLOTS {
+        most = clock::larger(numbers[j], most);
+    }
+    most
 }

@@ -63,14 +63,14 @@ same-list : {B : Type 0} {xs ys : List B} → accepted xs ≡ accepted ys → xs
 same-list h = cc
 
 -- a run on a pattern that is read as ss, over a log that is read as es, gives a verdict of that list
-run-over : (ss : List Slot) (es : List Event) (pattern bytes : List ℕ) → readPattern pattern ≡ accepted ss → readLog bytes ≡ accepted es → (g : Given)
+pub run-over : (ss : List Slot) (es : List Event) (pattern bytes : List ℕ) → readPattern pattern ≡ accepted ss → readLog bytes ≡ accepted es → (g : Given)
     → RunOf pattern bytes g → (g .refused ≡ nothing) × VerdictOf ss es (g .ruling)
 run-over ss es pattern bytes p q g (pattern-refused {k} {o} a) = apart ss k o (sym p ∙ a)
 run-over ss es pattern bytes p q g (over-log {ss = found} a on) = go on
   where
     go : {g : Given} → RunOn found bytes g → (g .refused ≡ nothing) × VerdictOf ss es (g .ruling)
     go (log-refused {k} {o} b) = apart es k o (sym q ∙ b)
-    go (judged b v) = (refl, rw (same-list (sym p ∙ a), same-list (sym q ∙ b)) v)
+    go (judged b v first) = (refl, rw (same-list (sym p ∙ a), same-list (sym q ∙ b)) v)
 
 -- what is so of a described session with no event taken
 module _ (ss : List Slot) (s : Session) (h : Describes ss [] s) (events : List Event) where
@@ -135,7 +135,7 @@ every-run pattern log b g (over-log {ss = ss} a on) n = go on n
   where
     go : {g : Given} → RunOn ss log g → g .refused ≡ nothing → EveryRun pattern log g
     go (log-refused r) m = absurd (let z : _≡_ {A = Refused} Refused.log nothing = m in let y : _≡_ {A = ℕ} 0 1 = cc in let f : ⊥ = omega arith in f)
-    go (judged {es = es} {r = said} r v) m = record { events = es; reads = r; orders = λ order reached. same-run order reached }
+    go (judged {es = es} {r = said} r v first) m = record { events = es; reads = r; orders = λ order reached. same-run order reached }
       where
         good : Accepted es × Heights es × (log ≡ logBytes es)
         good = log-iff log b es .0 r

@@ -20,7 +20,6 @@ use Rattle.rules.specs.Accepted.{refusalAfter, takenAfter, Accepted, whole}
 use Rattle.rules.specs.State as rules
 use Rattle.rules.proofs.StateLaws as ruleLaws
 use Rattle.rules.proofs.AcceptedLists.{taken-iff}
-use Rattle.log.specs.declared.Pattern.{Pattern}
 use Rattle.log.specs.Whole.{GoodPattern, no-slot, one-slot, Whole, accepted, refused, blank, patternOf, patternFrom, readPattern}
 use Rattle.log.proofs.PatternRoundTrip.{pattern-iff}
 use Rattle.command.specs.Bytes.{Bytes}
@@ -248,11 +247,3 @@ used-pattern bytes b = go (readPattern bytes) refl
         let l : 0 < length ss = pattern-iff bytes b ss .0 q .0 .some in
         rw (ne-eqb (length ss) 0 (λ z. let f : ⊥ = omega arith in f))
     go (refused k o) q = refl
-
--- as long as there is no match, no row of all slots
-pub no-row : (ss : List Slot) (es : List Event) (s : Session) → Describes ss es s → s .count ≡ 0 → foundIn (s .table) (s .pattern .size) ≡ false
-no-row ss es s d z = rw (ap (λ (p : Pattern). p .size) (d .pattern)) (go (d .search) z)
-  where
-    go : {n : ℕ} → Searched ss es (s .clocks) (s .table) n → n ≡ 0 → foundIn (s .table) (length ss) ≡ false
-    go (searching h k m) q = by-test (foundIn (s .table) (length ss)) (λ t. absurd (m (found-match fits ss es (s .table) k .0 t))) (λ t. t)
-    go (matched lead later p l c k) q = absurd (let f : ⊥ = omega arith in f)

@@ -3,7 +3,7 @@ use Prim.Native.Nat.{ℕ, _+_, _-_, _<_}
 use native.Mathlib.Omega.{arith}
 use native.Mathlib.Decide.{decLt}
 use mathlib.Core.Path.{_≡_, sym, ap, _∙_}
-use mathlib.Core.Bool.{Bool, false, cond}
+use mathlib.Core.Bool.{Bool, cond}
 use mathlib.Core.List.{List, [], reverse}
 use lib.Dec.{eqb, leb}
 use lib.ListN.{length, getD, replicate, getD-replicate, length-replicate}
@@ -21,13 +21,12 @@ use Rattle.rules.proofs.StateLaws.{taken-in-range, too-many, after-refused}
 use Rattle.clock.specs.declared.Stamp.{Stamp}
 use Rattle.clock.specs.Clocks.{stampBy, clocksAfter}
 use Rattle.table.specs.Table.{offered, foundIn}
-use Rattle.table.proofs.Verdict.{unfit-leaves}
 use Rattle.session.specs.declared.Session.{Session}
 use Rattle.session.specs.declared.Answer.{Answer}
 use Rattle.session.specs.declared.Handed.{Handed}
 use Rattle.session.specs.declared.Verdict.{Verdict}
 use Rattle.session.specs.Answers.{refusal, answerIs, verdictIs}
-use Rattle.session.specs.Model.{Kept, keptOf, sessionOn, tableAfter, keptAdvanced, keptAfter, advanced, answerBy, handed, verdictOf}
+use Rattle.session.specs.Model.{Kept, keptOf, sessionOn, tableAfter, keptAdvanced, keptAfter, answerBy, handed, verdictOf}
 use Rattle.session.specs.Meaning.{takenBy, Describes, VerdictOf}
 use Rattle.session.proofs.Described.{handed-described, verdict-described}
 
@@ -88,25 +87,12 @@ module _ (acting : List ℕ) (fit : List Bool) (size : ℕ) (k : Kept) (e : Even
       rw (eq-eqb (k .count) 0 h)
       (λ i. record { state = q i; clocks = cl i; table = t i; taken = k .taken + 1; count = c i })
 
-  -- an event that fits no slot moves the clocks alone
-  pub kept-idle : (stamp : Stamp) (clocks : List ℕ) → k .count ≡ 0 → stamp ≡ stampBy (k .clocks) e → clocks ≡ clocksAfter (k .clocks) e
-      → ((j : ℕ) → j < slots → getD fit j false ≡ false) → foundIn (k .table) size ≡ false
-      → _≡_ {A = Kept} (record { state = state; clocks = clocks; table = k .table; taken = k .taken + 1; count = k .count }) (keptAdvanced acting fit size k e)
-  kept-idle stamp clocks h st cl unfit none =
-      kept-searched stamp clocks (k .table) (k .count) h st cl (sym (unfit-leaves acting fit size (e .thread) stamp (k .taken + 1) (k .table) unfit)) (rw none h)
-
 pub kept-taken : (acting : List ℕ) (fit : List Bool) (size : ℕ) (k after : Kept) (e : Event) → refusalBy (k .state) (k .taken) e ≡ 0
     → after ≡ keptAdvanced acting fit size k e → after ≡ keptAfter acting fit size k e
 unfolding keptAfter
 kept-taken acting fit size k after e z q = rw (eq-eqb (refusalBy (k .state) (k .taken) e) 0 z) q
 
 -- ---- the session
-
-pub advanced-is : (s : Session) (e : Event) (after : Kept)
-    → after ≡ keptAdvanced (threadsOf (s .pattern .slots)) (fitting (s .pattern .slots) e) (s .pattern .size) (keptOf s) e
-    → sessionOn (s .pattern) after ≡ advanced s e
-unfolding advanced
-advanced-is s e after q = ap (sessionOn (s .pattern)) q
 
 pub handed-is : (s : Session) (e : Event) (a : Answer) (after : Kept) → a ≡ answerBy (refusalBy (s .state) (s .taken) e)
     → after ≡ keptAfter (threadsOf (s .pattern .slots)) (fitting (s .pattern .slots) e) (s .pattern .size) (keptOf s) e

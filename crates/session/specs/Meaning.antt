@@ -14,7 +14,7 @@ use Rattle.rules.specs.State as rules
 use Rattle.log.specs.Whole.{GoodPattern, patternOf, accepted, refused, readLog, readPattern, outcomeOf, patternAnswerIs}
 use Rattle.clock.specs.Arrivals as clock
 use Rattle.table.specs.Keeps.{Keeps}
-use Rattle.dependence.specs.Order.{HasMatch, IsCount, Named}
+use Rattle.dependence.specs.Order.{HasMatch, IsCount, Named, IsFirst}
 use Rattle.session.specs.declared.Session.{Session}
 use Rattle.session.specs.declared.Opened.{Opened}
 use Rattle.session.specs.Answers.{refusal, Ruling, noRuling, Refused, nothing, log, Given}
@@ -55,9 +55,11 @@ pub record OpenedOn (bytes : List ℕ) (r : Opened) : Type 0 where
   pub described : Describes (slotsUsed (readPattern bytes)) [] (r .session)
 
 -- what a run over a log gives, its pattern accepted: "A refusal anywhere in the log wins over a match before it."
+-- "From now on a run names the first": "For runs the freedom in choosing slot events is gone."
 pub data RunOn (ss : List Slot) (bytes : List ℕ) : Given → Type 0 where
   log-refused : {k o : ℕ} → readLog bytes ≡ refused k o → RunOn ss bytes (record { refused = log; refusal = refusal k o; ruling = noRuling })
   judged : {es : List Event} {r : Ruling} → readLog bytes ≡ accepted es → VerdictOf ss es r
+      → (HasMatch ss es → IsFirst ss es (r .count) (take (length ss) (r .events)))
       → RunOn ss bytes (record { refused = nothing; refusal = refusal 0 0; ruling = r })
 
 -- "the pattern is read before the log"

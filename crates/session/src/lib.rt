@@ -207,7 +207,7 @@ fn or_lone(p: Pattern) -> Pattern
 }
 
 // The session on a pattern, with no event taken.
-pub fn fresh(p: Pattern) -> Session
+fn fresh(p: Pattern) -> Session
     ensures { λ r. ⌜ r ≡ freshOn p ⌝ }
 {
     let state = rules::fresh();

@@ -8,4 +8,3 @@ pub mod RowHistory
 pub mod History
 pub mod Start
 pub mod Verdict
-pub mod KeyLaws

@@ -1,29 +1,27 @@
 -- What is found in a table that keeps a list is the list's match; and an event that fits no slot leaves a table as it was.
 -- Assumes nothing.
-use Prim.Native.Nat.{ℕ, zero, suc, _+_, _-_, _^_, _≤_, _<_}
+use Prim.Native.Nat.{ℕ, _+_, _-_, _^_, _≤_, _<_}
 use mathlib.Core.Path.{_≡_, refl, sym, ap, subst, _∙_}
 use mathlib.Core.Logic.{_↔_}
-use mathlib.Core.Bool.{Bool, true, false, false≢true}
+use mathlib.Core.Bool.{Bool, true, false≢true}
 use mathlib.Core.List.{List}
 use mathlib.Core.Option.{Option, some, none}
 use native.Mathlib.Nat.{zero-add, add-assoc}
 use native.Mathlib.Omega.{arith}
-use lib.Dec.{leb, ltb}
 use lib.ListN.{length, getD, take, replicate, length-replicate}
 use lib.Seq.{ext-getD, getD-take, length-take-le}
-use borrow.Author.Tests.{le-leb, leb-true}
+use borrow.Author.Tests.{le-leb}
 use Rattle.event.specs.declared.Event.{Event}
 use Rattle.event.specs.declared.Slot.{Slot}
-use Rattle.event.specs.Limits.{threads, slots}
+use Rattle.event.specs.Limits.{slots}
 use Rattle.event.specs.Slots.{noEvent}
 use Rattle.event.proofs.Tests.{by-test}
 use Rattle.trace.specs.Tuples.{pick}
 use Rattle.trace.proofs.Verdict.{Answers, match, no-match, best-answers}
 use Rattle.dependence.specs.Dependence.{dependent}
 use Rattle.trace.specs.Match.{HasMatch, Named}
-use Rattle.clock.specs.declared.Stamp.{Stamp}
 use Rattle.table.specs.Sets.{lanes, held}
-use Rattle.table.specs.Table.{pasted, slotOffered, offeredDown, offered, lastRow, foundIn, numbersIn}
+use Rattle.table.specs.Table.{pasted, lastRow, foundIn, numbersIn}
 use Rattle.table.specs.Keeps.{Fits, Greatest, rowIn, numbersOf, Keeping, kept, missing, Keeps, NumbersFound}
 use Rattle.table.proofs.RowLaws.{pasted-length, pasted-outside, pasted-inside}
 use Rattle.table.proofs.BitLaws.{number-all, pick-all, listed-length, listed-at}
@@ -131,19 +129,3 @@ module _ (fits : Fits) (ss : List Slot) (log : List Event) (table : List ℕ) (h
       names : Verdict → HasMatch dependent fits ss log → Named dependent fits ss log (length log) (numbersOf d row)
       names (with-row r a b) m = b
       names (with-none r a) m = absurd (a m)
-
--- ---- an event that fits no slot
-
-module _ (acting : List ℕ) (fit : List Bool) (n t : ℕ) (stamp : Stamp) (number : ℕ) where
-  down-unfit : (k : ℕ) (table : List ℕ) → ((j : ℕ) → j < k → getD fit j false ≡ false)
-      → offeredDown k table acting fit n t stamp number ≡ table
-  unfolding offeredDown slotOffered
-  down-unfit zero table d = refl
-  down-unfit (suc k) table d = rw (d k (omega arith)) (down-unfit k table (λ j l. d j (omega arith)))
-
-  pub unfit-leaves : (table : List ℕ) → ((j : ℕ) → j < slots → getD fit j false ≡ false) → offered table acting fit n t stamp number ≡ table
-  unfolding offered
-  unfit-leaves table d =
-      by-test (ltb t threads)
-      (λ q. by-test (leb n slots) (λ r. let l = leb-true n slots r in rw (q, r) (down-unfit n table (λ j u. d j (omega arith)))) (λ r. rw (q, r) refl))
-      (λ q. rw q refl)

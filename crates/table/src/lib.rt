@@ -1,22 +1,18 @@
 // The table that keeps, for every set of a pattern's slots, the greatest partial match, as the events of a log arrive.
 use clock::Stamp;
-use event::Slot;
 ghost use mathlib.Core.Path.{_≡_};
 ghost use mathlib.Core.Logic.{_↔_};
 ghost use mathlib.Core.Bool.{true, false, cond};
 ghost use mathlib.Core.List.{List, [], _∷_, _++_};
-ghost use Prim.Native.Nat.{ℕ, _+_, _-_, _*_, _^_, _%_, _≤_, _<_};
-ghost use lib.ListN.{length, getD};
+ghost use Prim.Native.Nat.{_+_, _-_, _*_, _^_, _≤_, _<_};
+ghost use lib.ListN.{length};
 ghost use Rattle.event.specs.declared.Event.{Event};
 ghost use Rattle.event.specs.declared.Slot.{Slot};
 ghost use Rattle.event.specs.Limits.{slots as slotLimit};
-ghost use Rattle.event.specs.Keys.{keyOf};
-ghost use Rattle.event.specs.Slots.{slotOf, fits, noSlot};
 ghost use Rattle.trace.specs.Match.{HasMatch};
 ghost use Rattle.dependence.specs.Dependence.{dependent};
 ghost use Rattle.table.specs.Sets.{sets, width, size as tableSize};
 ghost use Rattle.table.specs.Table.{pasted, rowAt, roomIn, limitAt, limitsAfter, withEntry, setOffered, sweptTo, offered, freshTable, lastRow, foundIn, numbersIn};
-ghost use Rattle.table.specs.Keys.{KeysOf, wantsTo};
 ghost use Rattle.table.specs.Keeps.{Fits, ByThread, Keeps, Follows, NumbersFound};
 
 // A row has the places of the slots, then their event numbers, and last whether there is a row.
@@ -76,36 +72,6 @@ pub fn fresh() -> [u16; TABLE]
     };
     store(&mut table, 0, none);
     table
-}
-
-// What an event is compared by before its slots are looked at one by one: a number for each slot.
-pub fn keys(slots: [Slot; event::SLOTS]) -> [u32; event::SLOTS]
-    ensures { λ r. ⌜ KeysOf slots r ⌝ }
-{
-    let mut r = [0u32; event::SLOTS];
-    for j in 0..event::SLOTS {
-        let s = slots[j];
-        r[j] = slot_key(s);
-    }
-    r
-}
-
-// Whether an event of this key may fit one of the slots that these keys are of.
-pub fn wants(keys: [u32; event::SLOTS], k: u32) -> bool
-    ensures exact { λ r. ⌜ r ≡ wantsTo slotLimit keys k ⌝ }
-    ensures unfit { λ r. ⌜ ((slots : List Slot) (e : Event) → KeysOf slots keys → k ≡ keyOf (slotOf e) → r ≡ false → (j : ℕ) → j < slotLimit → fits (getD slots j noSlot) e ≡ false) ⌝ }
-{
-    let mut any = false;
-    for j in 0..event::SLOTS {
-        any = any | (keys[j] == k);
-    }
-    any
-}
-
-fn slot_key(s: Slot) -> u32
-    ensures { λ r. ⌜ r ≡ keyOf s ⌝ }
-{
-    event::number_of(s) % 16777216
 }
 
 // Takes one event of a thread, which has this stamp and number and fits the slots that `fit` says; `acting` is the thread of each slot.

@@ -21,7 +21,7 @@ use Rattle.trace.proofs.Before.{before}
 use Rattle.trace.proofs.Matches.{empty-match, match-iff, match-whole}
 use Rattle.trace.proofs.Counts.{matches, matches-iff, count-of, count-of-is}
 use Rattle.dependence.specs.Dependence.{dependent}
-use Rattle.dependence.specs.Order.{HasMatch, IsCount, Named}
+use Rattle.dependence.specs.Order.{HasMatch, IsCount, Named, IsFirst}
 use Rattle.height.specs.Rounding.{metresOf}
 use Rattle.listing_text.specs.Text.{figures, heightText}
 use Rattle.trials.specs.Trials.{Verdict, match, none, Trial, judged, any-pattern, reads, prints, IsVerdict, Shows, All, trials}
@@ -42,7 +42,7 @@ count-within (smallest l h g) = l
 count-within (without d) = omega arith
 
 found-verdict : (ss : List Slot) (es : List Event) (v : Verdict) → Found ss es v → IsVerdict ss es v
-found-verdict ss es (match n numbers) f = (matched, count, named, only)
+found-verdict ss es (match n numbers) f = (matched, count, first, only)
   where
     rows : nameable noEvent dependent fits ss es n ≡ numbers ∷ []
     rows = ap (λ (r : ℕ × List (List ℕ)). r .1) f
@@ -65,6 +65,10 @@ found-verdict ss es (match n numbers) f = (matched, count, named, only)
     only : (others : List ℕ) → Named ss es n others → others ≡ numbers
     only others h =
         one (subst (λ (is : List (List ℕ)). Mem others is) rows (named-nameable noEvent dependent fits ss es n others h))
+
+    -- the only list is the first
+    first : IsFirst ss es n numbers
+    first = record { named = named; smallest = λ others h d. absurd (d (sym (only others h))) }
 found-verdict ss es none f = λ h. false≢true (sym f ∙ matches-iff noEvent dependent fits ss es .1 h)
 
 -- the pattern and the log are accepted, and that is what the search finds

@@ -8,7 +8,7 @@ use Rattle.event.specs.declared.Event.{Event}
 use Rattle.event.specs.declared.Slot.{Slot}
 use Rattle.command.specs.Bytes.{Bytes}
 use Rattle.log.specs.Whole.{Passing, passed, accepted, outcomeOf, readLog, readPattern}
-use Rattle.dependence.specs.Order.{HasMatch, IsCount, Named}
+use Rattle.dependence.specs.Order.{HasMatch, IsCount, Named, IsFirst}
 use Rattle.listing_text.specs.Text.{ascii, heightText}
 
 -- ---- what a row means
@@ -27,10 +27,11 @@ pub data Trial : Type 0 where
   prints : ℤ → List ℕ → Trial
 
 -- the verdict is that of the slots and the events: "A list has a match when some order reached from it holds the pattern,
--- else none."; the count is the list's, and the numbers are the only ones that can be named with the match
+-- else none."; the count is the list's, and the numbers are the first list, which a run names, and the only ones that can be
+-- named with the match
 abbrev pub IsVerdict : List Slot → List Event → Verdict → Type 0
 IsVerdict ss es (match n numbers) =
-    HasMatch ss es × IsCount ss es n × Named ss es n numbers × ((others : List ℕ) → Named ss es n others → others ≡ numbers)
+    HasMatch ss es × IsCount ss es n × IsFirst ss es n numbers × ((others : List ℕ) → Named ss es n others → others ≡ numbers)
 IsVerdict ss es none = ¬ HasMatch ss es
 
 -- what a row says, by the definitions: its pattern and its log are accepted, and the verdict is that of their slots and events;

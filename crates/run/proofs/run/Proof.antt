@@ -1,7 +1,7 @@
 use mathlib.Core.Path.{sym, ap, _∙_}
 use Rattle.command.specs.Bytes.{Bytes}
 use Rattle.log.specs.Whole.{patternAnswerIs}
-use Rattle.run.proofs.Running.{refused-pattern, accepted-pattern}
+use Rattle.run.proofs.Running.{refused-pattern, accepted-usable, accepted-pattern}
 use borrow.Author.Needs.{needs}
 use Rattle.run.proofs.run.Statement.{statement}
 use Rattle.run.proofs.run.Tie as tie
@@ -16,7 +16,10 @@ enum-told : tie.Need-enum-told
 enum-told c = search needs
 
 run-on-requires : tie.Need-run-on-requires
-run-on-requires c κs = search needs
+run-on-requires c κs =
+    let read = c .before .before .before .read-pattern .ensures in
+    let is-bytes : Bytes (c .before .before .before .before .before .before .args .pattern .now) = λ k. c .before .before .before .before .before .shared-slice-known .given k .fits in
+    rw (read .pattern) (accepted-usable (c .before .before .before .before .before .before .args .pattern .now) (c .before .before .before .before .before .before .args .log .now) is-bytes _ (sym (ap patternAnswerIs (c .enum-told .given .1)) ∙ read .answer))
 
 returns : tie.Need-returns
 returns c = let given = c .before .answer .given in
@@ -27,7 +30,7 @@ returns-2 c = let bytes = c .before .before .before .before .before .before .bef
     let is-bytes : Bytes bytes = λ k. c .before .before .before .before .before .before .shared-slice-known .given k .fits in
     let read = c .before .before .before .before .read-pattern .ensures in
     let told = c .before .enum-told .given .1 in
-    accepted-pattern bytes _ is-bytes _ (sym (ap patternAnswerIs told) ∙ read .answer) (c .run-on .result) (λ ss g p. c .run-on .ensures ss g (read .pattern ∙ p))
+    accepted-pattern bytes _ is-bytes _ (sym (ap patternAnswerIs told) ∙ read .answer) _ (rw (read .pattern) at (c .run-on .ensures))
 
 pub run-spec : {M : Type 1} → statement M
 run-spec =
