@@ -45,7 +45,8 @@ pub fn make(buffer: &mut [u8], drawn: u32) -> Draft
     closed(buffer, d)
 }
 
-// The same with four to seven events of one mix: 1 has many reads, 2 many acquires and releases, 3 many forks and joins, each with marks.
+// The same with four to seven events of one mix: 1 has many reads, 2 many acquires and releases, 3 many forks and joins, each with marks; 4 has marks, reads and writes of one object,
+// so that events repeat.
 pub fn make_mixed(buffer: &mut [u8], drawn: u32, mix: u8) -> Draft
     ensures { λ r. ⌜ r .at ≤ length (now (buffer .exit)) ⌝ }
 {
@@ -60,9 +61,9 @@ pub fn make_mixed(buffer: &mut [u8], drawn: u32, mix: u8) -> Draft
     closed(buffer, d)
 }
 
-// Few threads for locks, so that holders come to release.
+// Few threads for locks, so that holders come to release, and where events are to repeat.
 fn threads_of(mix: u8, more: bool) -> u8 {
-    if mix == 2 {
+    if mix == 2 || mix == 4 {
         return if more { 4 } else { 2 };
     }
     if more { 8 } else { 4 }
@@ -163,11 +164,19 @@ fn near(n: u8, last: u8, high: bool) -> u8 {
 // An event over two variables, two locks, four children and four marks.
 fn event_of(drawn: u32, manner: Manner) -> Event {
     let high = manner.high;
-    let object = (drawn / 1048576 % 4) as u8;
+    let object = object_of(drawn, manner.mix);
     let thread = near(thread_of(drawn, manner.threads), 7, high);
     let kind = drawn / 16777216 % 16;
     let operation = operation_of(in_mix(kind, manner.mix), object, high);
     Event { thread, operation }
+}
+
+// One of four objects; in mix 4 the first.
+fn object_of(drawn: u32, mix: u8) -> u8 {
+    if mix == 4 {
+        return 0;
+    }
+    (drawn / 1048576 % 4) as u8
 }
 
 // One of two, four or eight threads.
@@ -185,6 +194,7 @@ fn in_mix(kind: u32, mix: u8) -> u32 {
         1 => reads(kind),
         2 => locks(kind),
         3 => threads(kind),
+        4 => repeats(kind),
         _ => kind,
     }
 }
@@ -217,6 +227,15 @@ fn threads(kind: u32) -> u32 {
         5..=8 => 13,
         9 => 0,
         10 => 2,
+        _ => 15,
+    }
+}
+
+fn repeats(kind: u32) -> u32 {
+    match kind {
+        0..=5 => 0,
+        6 => 2,
+        7 => 3,
         _ => 15,
     }
 }

@@ -4,6 +4,7 @@ use command::EventRead;
 use log::LogRead;
 use log::PatternAnswer;
 use plain::drawn;
+use run::Judged;
 use run::Outcome;
 use session::Answer;
 use session::Found;
@@ -12,8 +13,7 @@ use session::Session;
 use session::Verdict;
 
 // Whether the run says what the search says, or refuses the log as reading it does.
-pub(crate) fn run_agrees(pattern: &[u8], log: &[u8], t: Truth, read: LogRead) -> bool {
-    let judged = run::run(pattern, log);
+pub(crate) fn run_agrees(judged: Judged, t: Truth, read: LogRead) -> bool {
     let outcome = judged.outcome;
     let numbers = judged.numbers;
     let l = t.leading;
@@ -123,7 +123,7 @@ fn zeros(numbers: [u16; 5], from: usize) -> bool {
 }
 
 // Whether the events named fit their slots, lie within the count, and can stand in the slots' sequence.
-fn named_well(t: Truth, count: usize, numbers: [u16; 5]) -> bool {
+pub(crate) fn named_well(t: Truth, count: usize, numbers: [u16; 5]) -> bool {
     let k = t.sketch;
     for i in 0..5 {
         if i < k.size && !slot_named_well(t, count, numbers, i) {

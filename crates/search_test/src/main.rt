@@ -1,5 +1,6 @@
 // Holds runs, sessions and order queries to a plain search through all orders of many small logs, and prints how many were compared.
 mod compare;
+mod first;
 mod known;
 mod orders;
 mod pairs;
@@ -10,6 +11,7 @@ mod truth;
 use log::LogRead;
 use plain::drawn;
 use plain::drawn::Draft;
+use run::Judged;
 use tally::COUNTS;
 use truth::Truth;
 
@@ -35,7 +37,7 @@ fn all(
 ) {
     let mut drawn: u32 = 2;
     for n in 0..LOGS {
-        drawn = on_next(queue, seen, log, pattern, counts, drawn, (n % 4) as u8);
+        drawn = on_next(queue, seen, log, pattern, counts, drawn, (n % 5) as u8);
     }
 }
 
@@ -87,15 +89,17 @@ fn on_log(
 fn compared(pattern: &[u8], log: &[u8], t: Truth, counts: &mut [u64; COUNTS]) {
     let read = log::read_log(log);
     tally::log(counts, read, t);
-    if agree(pattern, log, t, read) {
-        return;
+    let judged = run::run(pattern, log);
+    let agreed = agree(pattern, log, t, read, judged);
+    tally::add_if(counts, tally::DISAGREEMENTS, !agreed);
+    let first = first::agrees(judged, t, counts);
+    if !(agreed && first) {
+        disagreement(pattern, log);
     }
-    disagreement(pattern, log);
-    tally::add(counts, tally::DISAGREEMENTS, 1);
 }
 
-fn agree(pattern: &[u8], log: &[u8], t: Truth, read: LogRead) -> bool {
-    compare::run_agrees(pattern, log, t, read) && compare::session_agrees(pattern, log, t, read)
+fn agree(pattern: &[u8], log: &[u8], t: Truth, read: LogRead, judged: Judged) -> bool {
+    compare::run_agrees(judged, t, read) && compare::session_agrees(pattern, log, t, read)
 }
 
 fn disagreement(pattern: &[u8], log: &[u8]) {

@@ -6,7 +6,7 @@ use log::LogRead;
 use plain::Leading;
 use plain::drawn;
 
-pub const COUNTS: usize = 32;
+pub const COUNTS: usize = 35;
 
 // The places of the counts. Those of kinds are told by the byte of the operation, those of patterns by the number of slots.
 pub const KNOWN: usize = 0;
@@ -39,7 +39,9 @@ const MOST_ORDERS: usize = 26;
 
 pub const DISAGREEMENTS: usize = 27;
 
-pub const PAIRS: usize = 28;
+pub const FIRST: usize = 28;
+
+pub const PAIRS: usize = 31;
 
 // So many more at a place.
 pub(crate) fn add(counts: &mut [u64; COUNTS], i: usize, n: u64) {

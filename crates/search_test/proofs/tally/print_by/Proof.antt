@@ -7,10 +7,10 @@ use Rattle.search_test.proofs.tally.print_by.Statement.{statement}
 use Rattle.search_test.proofs.tally.print_by.Tie as tie
 
 abbrev Inv-loop : tie.InvT-loop
-Inv-loop words counts at₀ i₀ at i = i ≤ 32
+Inv-loop words counts at₀ i₀ at i = i ≤ 35
 
 abbrev μ-loop : tie.MeasureT-loop
-μ-loop words counts at₀ i₀ at i = 32 - i
+μ-loop words counts at₀ i₀ at i = 35 - i
 
 loop-holds : tie.Need-loop-holds Inv-loop μ-loop
 loop-holds c = search needs
