@@ -1,6 +1,7 @@
 // Holds everything that is timed to the independent implementation, on many random inputs, before anything is timed.
 use crate::contest;
 use crate::ffi::{self, Session};
+use crate::greedy;
 use crate::load::{self, Bytes, Steps};
 use crate::reference::{self, Event, Label, Past};
 use crate::verdict::{found, Judged, Outcome, Refusal, EVENTS, SLOTS};
@@ -55,22 +56,35 @@ fn count(slots: &[Label], log: &[Label], before: &Before) -> usize {
     count
 }
 
-/// What document 01 asks of the events named for the slots.
-fn named(slots: &[Label], log: &[Label], before: &Before, count: usize, numbers: [u16; SLOTS]) -> bool {
-    let (used, beyond) = numbers.split_at(if count == 0 { 0 } else { slots.len() });
-    let events: Vec<usize> = used.iter().map(|&n| n as usize).collect();
-    if beyond.iter().any(|&n| n != 0) || events.iter().any(|&n| n == 0 || n > count) {
-        return false;
+/// The first list within the count, as a run names it: by a search that goes on only with what satisfies the rule, and for a short log by
+/// going through all lists too.
+fn first(slots: &[Label], log: &[Label], before: &Before, count: usize) -> [u16; SLOTS] {
+    let leading = &log[..count];
+    let first = reference::first_list(slots, leading, before);
+    if log.len() <= 8 {
+        assert_eq!(first, reference::first_of_all_lists(slots, leading, before), "the search and all lists differ on {log:?}");
     }
-    let fit = events.iter().zip(slots).all(|(&n, &slot)| log[n - 1] == slot);
-    let free = |k: usize| events[..k].iter().all(|&earlier| !before(events[k] - 1, earlier - 1));
-    fit && (0..events.len()).all(free)
+    assert_eq!(first.is_some(), count > 0, "no list satisfies the rule within {count} of {log:?}");
+    let mut numbers = [0; SLOTS];
+    for (number, e) in numbers.iter_mut().zip(first.unwrap_or_default()) {
+        *number = e as u16 + 1;
+    }
+    numbers
 }
 
-/// What the independent implementation answers, with what is needed to look at the named events.
+/// What document 01 asks of the events that a session names for the slots: any list that satisfies the rule within the count will do.
+fn named(slots: &[Label], log: &[Label], before: &Before, count: usize, numbers: [u16; SLOTS]) -> bool {
+    let (used, beyond) = numbers.split_at(if count == 0 { 0 } else { slots.len() });
+    if beyond.iter().any(|&n| n != 0) || used.iter().any(|&n| n == 0 || n as usize > count) {
+        return false;
+    }
+    let list: Vec<usize> = used.iter().map(|&n| n as usize - 1).collect();
+    reference::satisfies(slots, log, before, &list)
+}
+
+/// What the independent implementation answers, with the log's events and their order.
 struct Expected {
-    outcome: Outcome,
-    slots: Vec<Label>,
+    judged: Judged,
     log: Vec<Label>,
     before: Before,
 }
@@ -82,21 +96,17 @@ fn labels(events: &[Event]) -> Vec<Label> {
 fn expected(pattern: &[u8], log: &[u8]) -> Expected {
     let read = reference::read_log(log);
     let list = labels(read.as_deref().unwrap_or(&[]));
-    let slots = reference::read_pattern(pattern);
     let before = before(&list);
-    let outcome = match (&slots, read) {
-        (Err(refusal), _) => Outcome::PatternRefused(*refusal),
-        (_, Err(refusal)) => Outcome::LogRefused(refusal),
-        (Ok(slots), Ok(_)) => found(count(slots, &list, &before)),
+    let refused = |outcome| Judged { outcome, numbers: [0; SLOTS] };
+    let judged = match (reference::read_pattern(pattern), read) {
+        (Err(refusal), _) => refused(Outcome::PatternRefused(refusal)),
+        (_, Err(refusal)) => refused(Outcome::LogRefused(refusal)),
+        (Ok(slots), Ok(_)) => {
+            let count = count(&slots, &list, &before);
+            Judged { outcome: found(count), numbers: first(&slots, &list, &before, count) }
+        }
     };
-    Expected { outcome, slots: slots.unwrap_or_default(), log: list, before }
-}
-
-fn count_of(outcome: Outcome) -> usize {
-    match outcome {
-        Outcome::Match { count } => count,
-        _ => 0,
-    }
+    Expected { judged, log: list, before }
 }
 
 /// What the floor answers where the whole checker answers this: it knows no pattern.
@@ -117,15 +127,14 @@ impl Totals {
         }
     }
 
-    /// One pattern and one log: the run with its named events, and the three others.
+    /// One pattern and one log: the proved run and the unproved one with the events that they name, and the outcome of every contestant.
     fn hold(&mut self, pattern: &[u8], log: &[u8]) {
         let e = expected(pattern, log);
-        self.note(e.outcome);
-        let judged = ffi::run(pattern, log);
-        let fine = named(&e.slots, &e.log, &e.before, count_of(e.outcome), judged.numbers);
-        assert!(judged.outcome == e.outcome && fine, "run: {judged:?}, not {:?}: {pattern:02x?} {log:02x?}", e.outcome);
+        self.note(e.judged.outcome);
+        assert_eq!(greedy::run(pattern, log), e.judged, "(e) with its events: {pattern:02x?} {log:02x?}");
+        assert_eq!(ffi::run(pattern, log), e.judged, "(a) with its events: {pattern:02x?} {log:02x?}");
         for (name, contestant) in contest::ALL {
-            let wanted = if name == "c" { without_pattern(log) } else { e.outcome };
+            let wanted = if name == "c" { without_pattern(log) } else { e.judged.outcome };
             let got = contestant(pattern, log);
             assert_eq!(got, wanted, "({name}): {pattern:02x?} {log:02x?}");
         }
@@ -350,13 +359,17 @@ fn whole(totals: &mut Totals) {
     }
 }
 
-/// The example of the formats' document, and the first event of Note 11.
+/// The first event of Note 11; the example of the formats' document; and the same with two events that fit the second slot.
 fn examples() {
     assert_eq!(load::note_11(0, 1), [7, 0, 6, 0, 0]);
     let pattern = [2, 0, 0, 7, 1, 11, 0, 0];
-    let log = [7, 1, 11, 0, 2, 0, 0, 0x70, 0xFE, 0xFF, 0xFF, 0];
-    let judged = Judged { outcome: Outcome::Match { count: 2 }, numbers: [2, 1, 0, 0, 0] };
-    assert_eq!(ffi::run(&pattern, &log), judged);
+    let one = [7, 1, 11, 0, 2, 0, 0, 0x70, 0xFE, 0xFF, 0xFF, 0];
+    let two = [7, 1, 11, 0, 7, 1, 11, 0, 2, 0, 0, 0x70, 0xFE, 0xFF, 0xFF, 0];
+    for (log, count, numbers) in [(&one[..], 2, [2, 1, 0, 0, 0]), (&two[..], 3, [3, 1, 0, 0, 0])] {
+        let judged = Judged { outcome: Outcome::Match { count }, numbers };
+        assert_eq!(greedy::run(&pattern, log), judged, "(e) on an example");
+        assert_eq!(ffi::run(&pattern, log), judged, "(a) on an example");
+    }
 }
 
 /// Stops the program at the first difference; else says how much was compared.
@@ -372,7 +385,7 @@ pub fn all() {
     whole(&mut totals);
     let Totals { inputs, matches, nones, refused, handed, verdicts, queries } = totals;
     let numbers: Vec<String> = (1..15).map(|k| format!("{k}: {}", refused[k])).collect();
-    println!("Agreement: {inputs} inputs, (a) to (d) each as the independent implementation says: {matches} match, {nones} none,");
-    println!("{} refused (by number, {}).", refused.iter().sum::<usize>(), numbers.join(", "));
+    println!("Agreement: {inputs} inputs, (a) to (e) each as the independent implementation says: {matches} match, {nones} none,");
+    println!("{} refused (by number, {}). (a) and (e) name the first list each time.", refused.iter().sum::<usize>(), numbers.join(", "));
     println!("Sessions: {handed} events handed over, {verdicts} verdicts looked at; {queries} order queries.\n");
 }

@@ -1,13 +1,17 @@
-// The four that are compared, each from a pattern and a log as bytes to an outcome.
+// The five that are compared, each from a pattern and a log as bytes to an outcome.
 use crate::decode::{self, Operation, Step};
 use crate::ffi::{self, Session};
+use crate::greedy;
 use crate::patterntrack;
 use crate::verdict::{Outcome, Refusal};
 
 pub type Contestant = fn(&[u8], &[u8]) -> Outcome;
 
+pub const MANY: usize = 5;
+
 /// In the order of the table's columns.
-pub const ALL: [(&str, Contestant); 4] = [("a", run), ("b", patterntrack::run), ("c", floor), ("d", by_session)];
+pub const ALL: [(&str, Contestant); MANY] =
+    [("a", run), ("b", patterntrack::run), ("c", floor), ("d", by_session), ("e", by_greedy_choice)];
 
 /// (a) The proved run, from bytes.
 fn run(pattern: &[u8], log: &[u8]) -> Outcome {
@@ -55,4 +59,9 @@ fn by_session(pattern: &[u8], log: &[u8]) -> Outcome {
             Step::Refused(refusal) => return Outcome::LogRefused(refusal),
         }
     }
+}
+
+/// (e) The run's algorithm, unproved.
+fn by_greedy_choice(pattern: &[u8], log: &[u8]) -> Outcome {
+    greedy::run(pattern, log).outcome
 }

@@ -1,4 +1,4 @@
-// The inputs that are timed: four loads, each with patterns of 1, 3 and 5 slots that match late or never.
+// The inputs that are timed: six loads, each with patterns of 1, 3 and 5 slots that match late or never.
 use crate::verdict::EVENTS;
 
 /// A pattern and a log, both as bytes.
@@ -11,7 +11,7 @@ pub struct Input {
     pub events: usize,
 }
 
-pub const LOADS: [&str; 4] = ["Note 11", "dense", "staged", "locks"];
+pub const LOADS: [&str; 6] = ["Note 11", "dense", "staged", "locks", "sparse", "no fit"];
 pub const SIZES: [usize; 3] = [1, 3, 5];
 pub const ENDINGS: [&str; 2] = ["late", "never"];
 
@@ -109,6 +109,11 @@ fn pattern(load: &str, size: usize) -> Vec<u8> {
     whole.close()
 }
 
+/// The slots before the last. A pattern of one slot has none, so there they are those of three slots.
+fn before_last(size: usize) -> Vec<usize> {
+    (5 - size.max(3)..4).collect()
+}
+
 /// Nine of ten events fit one of the slots given; the rest are reads and writes by any thread.
 fn dense_event(steps: &mut Steps, slots: &[usize], log: &mut Bytes) {
     let height = steps.below(4096) as i32 - 2048;
@@ -123,11 +128,11 @@ fn dense_event(steps: &mut Steps, slots: &[usize], log: &mut Bytes) {
     }
 }
 
-/// Every slot but the last is filled again and again. A pattern of one slot has no other, so there the load is that of three slots.
+/// Every slot but the last is filled again and again.
 fn dense(size: usize, count: usize) -> Bytes {
     let mut steps = Steps(7);
     let mut log = Bytes::default();
-    let slots: Vec<usize> = (5 - size.max(3)..4).collect();
+    let slots = before_last(size);
     for _ in 0..count {
         dense_event(&mut steps, &slots, &mut log);
     }
@@ -149,6 +154,27 @@ fn staged(size: usize, count: usize) -> Bytes {
         }
         let slots: Vec<usize> = (5 - size..5).filter(|&slot| slot != stage).collect();
         dense_event(&mut steps, &slots, &mut log);
+    }
+    log
+}
+
+/// One event in a hundred fits one of the slots given, and none where none is given; the rest are reads, writes and marks by any thread.
+fn mostly_unfit(slots: &[usize], count: usize) -> Bytes {
+    let mut steps = Steps(13);
+    let mut log = Bytes::default();
+    for _ in 0..count {
+        let height = steps.below(4096) as i32 - 2048;
+        if !slots.is_empty() && steps.below(100) == 0 {
+            put_slot("sparse", slots[steps.below(slots.len() as u32) as usize], height, &mut log);
+            continue;
+        }
+        let thread = steps.below(5) as u8;
+        let object = 8 + steps.below(8) as u8;
+        match steps.below(3) {
+            0 => log.plain(1, thread, object),
+            1 => log.write(thread, object, height),
+            _ => log.mark(thread, object as u16),
+        }
     }
     log
 }
@@ -219,6 +245,8 @@ pub fn input(load: &'static str, slots: usize, ending: &'static str, count: usiz
         "Note 11" => note_11_events(0, before),
         "dense" => dense(slots, before),
         "staged" => staged(slots, before),
+        "sparse" => mostly_unfit(&before_last(slots), before),
+        "no fit" => mostly_unfit(&[], before),
         _ => locks(before),
     };
     if late {
@@ -227,13 +255,16 @@ pub fn input(load: &'static str, slots: usize, ending: &'static str, count: usiz
     Input { load, slots, ending, pattern: pattern(load, slots), log: log.close(), events: count }
 }
 
-/// Every input of the table. A staged load with one slot would match at its first stage.
+/// Every input of the table. A staged load with one slot would match at its first stage. Where no event is to fit, none is planted either,
+/// so that nothing matches late.
 pub fn inputs() -> Vec<Input> {
     let mut all = Vec::new();
     for load in LOADS {
         for slots in SIZES {
             for ending in ENDINGS {
-                if load != "staged" || slots > 1 {
+                let early = load == "staged" && slots == 1;
+                let planted = load == "no fit" && ending == "late";
+                if !early && !planted {
                     all.push(input(load, slots, ending, EVENTS));
                 }
             }

@@ -1,11 +1,15 @@
-// Compares the proved run with a port of PATTERNTRACK, with decoding alone and with a session, on the same inputs in one process.
+// Compares the proved run with a port of PATTERNTRACK, with decoding alone, with a session and with its own algorithm in unproved Rust, on
+// the same inputs in one process.
 //
 // With no word: agreement, the table, the goals, the plot (to the file that BENCH_PLOT names, else growth.svg).
 // `agree`: agreement alone. `once WHO LOAD SLOTS ENDING`: one call, for a tool that counts instructions.
 mod agree;
+mod clocks;
 mod contest;
 mod decode;
 mod ffi;
+mod goals;
+mod greedy;
 mod load;
 mod patterntrack;
 mod plot;
@@ -19,7 +23,7 @@ fn chosen<const N: usize>(words: [&'static str; N], given: &str) -> &'static str
 }
 
 fn once(words: &[String]) {
-    let (_, contestant) = contest::ALL.into_iter().find(|(name, _)| *name == words[0]).expect("a, b, c or d");
+    let (_, contestant) = contest::ALL.into_iter().find(|(name, _)| *name == words[0]).expect("a, b, c, d or e");
     let slots = words[2].parse().expect("1, 3 or 5");
     let input = load::input(chosen(load::LOADS, &words[1]), slots, chosen(load::ENDINGS, &words[3]), verdict::EVENTS);
     println!("{:?}", time::bench_counted(contestant, &input));
@@ -27,13 +31,13 @@ fn once(words: &[String]) {
 
 fn table() {
     println!(
-        "ns of processor time an event, the least of {} runs, the four in turns on the same buffers; each call sets up its own state,",
+        "ns of processor time an event, the least of {} runs, the five in turns on the same buffers; each call sets up its own state,",
         time::ROUNDS
     );
     println!("nothing else is cleared. {} events. (d) is handed one event at a time.\n", verdict::EVENTS);
     let rows = time::rows();
     time::print(&rows);
-    time::goals(&rows);
+    goals::print(&rows);
     let file = std::env::var("BENCH_PLOT").unwrap_or("growth.svg".into());
     std::fs::write(&file, plot::growth()).expect("the plot can't be written");
     println!("\nThe plot is in {file}.");

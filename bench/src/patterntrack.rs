@@ -5,21 +5,13 @@
 // which label is worked out once per pattern; tuples lie in arrays by length, so that their copies have fixed sizes; the test of a tuple
 // stops at the first event that comes before the new one; a full permutation is tested and never stored; once there is a match only the
 // checks of the log go on.
-use crate::decode::{self, Event, Operation};
+use crate::clocks::{key, key_of_slot, Clock, Clocks};
+use crate::decode::{self, Event};
 use crate::reference::{self, Label};
 use crate::verdict::{found, Outcome, SLOTS, THREADS};
 
-type Clock = [u16; THREADS];
-
 /// The most permutations of one length.
 const MOST: usize = 120;
-
-struct Clocks {
-    threads: [Clock; 8],
-    reads: [Clock; 32],
-    writes: [Clock; 32],
-    locks: [Clock; 16],
-}
 
 /// A permutation that ends in the label at hand: its place among those of its length, the place of what stands before its last slot, and
 /// which places of that hold slots after its last slot.
@@ -52,13 +44,6 @@ struct Tracker {
     four: Level<4>,
 }
 
-#[inline(always)]
-fn join(a: &mut Clock, b: &Clock) {
-    for i in 0..THREADS {
-        a[i] = a[i].max(b[i]);
-    }
-}
-
 /// Whether the event of clock `a` comes before or is that of clock `b`. Every lane is compared, so that the clock stays one vector.
 #[inline(always)]
 fn below(a: &Clock, b: &Clock) -> bool {
@@ -69,60 +54,9 @@ fn below(a: &Clock, b: &Clock) -> bool {
     over == 0
 }
 
-impl Clocks {
-    fn new() -> Clocks {
-        Clocks { threads: [[0; THREADS]; 8], reads: [[0; THREADS]; 32], writes: [[0; THREADS]; 32], locks: [[0; THREADS]; 16] }
-    }
-
-    /// The clock of the next event.
-    #[inline(always)]
-    fn advance(&mut self, e: Event) -> Clock {
-        let t = e.thread as usize;
-        let mut own = self.threads[t];
-        own[t] += 1;
-        match e.operation {
-            Operation::Read { variable } => {
-                join(&mut own, &self.writes[variable as usize]);
-                join(&mut self.reads[variable as usize], &own);
-            }
-            Operation::Write { variable, .. } => {
-                join(&mut own, &self.writes[variable as usize]);
-                join(&mut own, &self.reads[variable as usize]);
-                self.writes[variable as usize] = own;
-            }
-            Operation::Acquire { lock } | Operation::Release { lock } => {
-                join(&mut own, &self.locks[lock as usize]);
-                self.locks[lock as usize] = own;
-            }
-            Operation::Fork { child } | Operation::Join { child } => {
-                join(&mut own, &self.threads[child as usize]);
-                self.threads[child as usize] = own;
-            }
-            Operation::Mark { .. } => {}
-        }
-        self.threads[t] = own;
-        own
-    }
-}
-
-/// Operation, thread and object in one number.
-#[inline(always)]
-fn key(e: Event) -> u32 {
-    let (op, object) = match e.operation {
-        Operation::Read { variable } => (1, variable as u32),
-        Operation::Write { variable, .. } => (2, variable as u32),
-        Operation::Acquire { lock } => (3, lock as u32),
-        Operation::Release { lock } => (4, lock as u32),
-        Operation::Fork { child } => (5, child as u32),
-        Operation::Join { child } => (6, child as u32),
-        Operation::Mark { mark } => (7, mark as u32),
-    };
-    op << 24 | (e.thread as u32) << 16 | object
-}
-
 impl Plan {
     fn new(pattern: &[Label]) -> Plan {
-        let keys: Vec<u32> = pattern.iter().map(|s| (s.op as u32) << 24 | (s.thread as u32) << 16 | s.object as u32).collect();
+        let keys: Vec<u32> = pattern.iter().map(|&slot| key_of_slot(slot)).collect();
         let mut plan = Plan { slots: keys.len(), labels: Vec::new(), nodes: Vec::new() };
         for &k in &keys {
             if !plan.labels.contains(&k) {

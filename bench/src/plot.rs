@@ -1,4 +1,5 @@
 // Draws time against the number of events, up to the most that a log holds, as an SVG.
+use crate::contest::MANY;
 use crate::load;
 use crate::time;
 use crate::verdict::EVENTS;
@@ -9,14 +10,14 @@ const WIDTH: f64 = 420.0;
 const HEIGHT: f64 = 300.0;
 const LEFT: f64 = 60.0;
 const TOP: f64 = 40.0;
-const COLOURS: [&str; 4] = ["#c0392b", "#2c6fbb", "#777777", "#2e8b57"];
-const NAMES: [&str; 4] = ["(a) run", "(b) PATTERNTRACK", "(c) decode", "(d) session"];
+const COLOURS: [&str; MANY] = ["#c0392b", "#2c6fbb", "#777777", "#2e8b57", "#b9770e"];
+const NAMES: [&str; MANY] = ["(a) run", "(b) PATTERNTRACK", "(c) decode", "(d) session", "(e) unproved"];
 
 /// For each number of events, the least time of each contestant in ms.
 struct Growth {
     load: &'static str,
     events: Vec<usize>,
-    times: Vec<[f64; 4]>,
+    times: Vec<[f64; MANY]>,
 }
 
 fn measure(load: &'static str) -> Growth {
@@ -64,7 +65,7 @@ impl Growth {
     /// The panel, moved `right`.
     fn panel(&self, right: f64) -> String {
         let mut s = format!("<g transform=\"translate({right},0)\">\n{}", self.axes());
-        for who in 0..4 {
+        for who in 0..MANY {
             let (colour, y) = (COLOURS[who], TOP + 14.0 + 18.0 * who as f64);
             let _ = writeln!(s, "<polyline points=\"{}\" fill=\"none\" stroke=\"{colour}\" stroke-width=\"1.5\"/>", self.line(who));
             let _ = writeln!(s, "<text x=\"{}\" y=\"{y}\" fill=\"{colour}\">{}</text>", LEFT + 12.0, NAMES[who]);
@@ -75,7 +76,7 @@ impl Growth {
     /// ns an event at the fewest and at the most events: equal where the growth is linear.
     fn say(&self) {
         let per_event = |at: usize, who: usize| self.times[at][who] * 1e6 / self.events[at] as f64;
-        for who in 0..4 {
+        for who in 0..MANY {
             let (few, many) = (per_event(0, who), per_event(POINTS - 1, who));
             println!("| {} | {} | {few:.1} | {many:.1} | {:.2} |", self.load, NAMES[who], many / few);
         }

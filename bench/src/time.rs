@@ -1,5 +1,5 @@
 // Times the contestants on the same buffers, in turns within one process, and keeps the least time of each.
-use crate::contest::{self, Contestant};
+use crate::contest::{self, Contestant, MANY};
 use crate::load::{self, Input};
 use crate::verdict::Outcome;
 use std::hint::black_box;
@@ -9,7 +9,7 @@ pub const ROUNDS: usize = 51;
 /// An input with the least time of each contestant, in ns an event.
 pub struct Row {
     pub input: Input,
-    pub least: [f64; 4],
+    pub least: [f64; MANY],
 }
 
 #[repr(C)]
@@ -45,12 +45,12 @@ fn once(contestant: Contestant, input: &Input) -> f64 {
 
 /// For each input the least time of each contestant, in ns an event. A round goes through all inputs, so that a noisy while of the machine
 /// falls on all of them; and it starts with another contestant than the last, so that none always follows the same one.
-pub fn least(inputs: &[Input]) -> Vec<[f64; 4]> {
-    let mut least = vec![[f64::MAX; 4]; inputs.len()];
+pub fn least(inputs: &[Input]) -> Vec<[f64; MANY]> {
+    let mut least = vec![[f64::MAX; MANY]; inputs.len()];
     for round in 0..ROUNDS {
         for (input, least) in inputs.iter().zip(&mut least) {
-            for turn in 0..4 {
-                let who = (round + turn) % 4;
+            for turn in 0..MANY {
+                let who = (round + turn) % MANY;
                 let time = once(contest::ALL[who].1, input) / input.events as f64;
                 least[who] = least[who].min(time);
             }
@@ -68,36 +68,13 @@ pub fn rows() -> Vec<Row> {
 
 /// The table, as Markdown.
 pub fn print(rows: &[Row]) {
-    println!("| load | slots | match | (a) run | (b) PATTERNTRACK | (c) decode | (d) session | a/c | b/a | d/a |");
-    println!("|---|---|---|---|---|---|---|---|---|---|");
-    for Row { input, least: [a, b, c, d] } in rows {
+    println!("| load | slots | match | (a) run | (b) PATTERNTRACK | (c) decode | (d) session | (e) unproved | a/c | b/a | d/a | a/e |");
+    println!("|---|---|---|---|---|---|---|---|---|---|---|---|");
+    for Row { input, least: [a, b, c, d, e] } in rows {
         let Input { load, slots, ending, .. } = input;
-        print!("| {load} | {slots} | {ending} | {a:.1} | {b:.1} | {c:.1} | {d:.1} ");
-        println!("| {:.2} | {:.2} | {:.2} |", a / c, b / a, d / a);
+        print!("| {load} | {slots} | {ending} | {a:.1} | {b:.1} | {c:.1} | {d:.1} | {e:.1} ");
+        println!("| {:.2} | {:.2} | {:.2} | {:.2} |", a / c, b / a, d / a, a / e);
     }
-}
-
-/// The worst value of a ratio over the rows that a goal speaks of.
-fn worst(rows: &[Row], load: &str, slots: usize, ratio: impl Fn(&[f64; 4]) -> f64, worse: fn(f64, f64) -> f64) -> f64 {
-    let spoken_of = |row: &&Row| (load.is_empty() || row.input.load == load) && (slots == 0 || row.input.slots == slots);
-    rows.iter().filter(spoken_of).map(|row| ratio(&row.least)).reduce(worse).unwrap_or(f64::NAN)
-}
-
-/// Each goal with the worst ratio of the rows that it speaks of.
-pub fn goals(rows: &[Row]) {
-    let over_floor = worst(rows, "Note 11", 5, |[a, _, c, _]| a / c, f64::max);
-    let ahead = worst(rows, "", 0, |[a, b, _, _]| b / a, f64::min);
-    let dense = worst(rows, "dense", 5, |[a, b, _, _]| b / a, f64::min);
-    let staged = worst(rows, "staged", 5, |[a, b, _, _]| b / a, f64::min);
-    let session = worst(rows, "Note 11", 0, |[a, _, _, d]| d / a, f64::max);
-    let say = |held: bool| if held { "yes" } else { "NO" };
-    println!("\n| goal | worst ratio in this run | reached |");
-    println!("|---|---|---|");
-    println!("| (a) at most 2.2 times (c), Note 11, 5 slots | a/c {over_floor:.2} | {} |", say(over_floor <= 2.2));
-    println!("| (a) below (b) on every input | b/a {ahead:.2} | {} |", say(ahead > 1.0));
-    println!("| (a) at least 5 times as fast as (b), dense, 5 slots | b/a {dense:.2} | {} |", say(dense >= 5.0));
-    println!("| the same on the staged load, which is dense too | b/a {staged:.2} | {} |", say(staged >= 5.0));
-    println!("| (d) at most 8 times (a), Note 11 | d/a {session:.2} | {} |", say(session <= 8.0));
 }
 
 /// One call and no more, for a tool that counts instructions from this function's start to its end.
