@@ -4,18 +4,12 @@ use borrow.Author.Needs.{needs}
 use Rattle.bilguzor.proofs.bilguzor_open.Statement.{statement}
 use Rattle.bilguzor.proofs.bilguzor_open.Tie as tie
 
-open-requires : tie.Need-open-requires
-open-requires c κs = search needs
-
 parts-of-requires : tie.Need-parts-of-requires
 parts-of-requires c κs = let o = c .before .«open» .ensures in let few = o .described .good .few in rw (o .session) few
-
-opening-of-requires : tie.Need-opening-of-requires
-opening-of-requires c κs = search needs
 
 returns : tie.Need-returns
 returns c = opened (c .before .before .before .before .before .args .pattern .now) (c .before .before .before .«open» .result) (c .before .before .before .«open» .ensures) _ (c .before .parts-of .ensures) _ (c .opening-of .ensures)
 
 pub bilguzor-open-spec : {M : Type 1} → statement M
 bilguzor-open-spec =
-    tie.close (tie.spec open-requires parts-of-requires opening-of-requires returns)
+    tie.close (tie.spec (λ c κs. search needs) parts-of-requires (λ c κs. search needs) returns)

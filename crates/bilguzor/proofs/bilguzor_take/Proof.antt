@@ -15,9 +15,6 @@ use Rattle.bilguzor.proofs.bilguzor_take.Tie as tie
 fit-there : (c : tie.Else1) → Fit (c .before .before .args .thread) (c .before .before .args .operation) (c .before .before .args .object)
 fit-there c = fit _ _ _ (sym (c .before .unfit .ensures) ∙ c .if1 .left)
 
-unfit-requires : tie.Need-unfit-requires
-unfit-requires c κs = search needs
-
 returns : tie.Need-returns
 returns c =
     let a = c .before .before .args in
@@ -35,9 +32,6 @@ cast-event-of-3 c = let l = fit-there c .object in omega arith
 event-of-requires : tie.Need-event-of-requires
 event-of-requires c κs = fit-there c .narrow
 
-threads-in-requires : tie.Need-threads-in-requires
-threads-in-requires c κs = search needs
-
 mul-fitting-in : tie.Need-mul-fitting-in
 mul-fitting-in c = let f = fit-there (c .before .before .before) in let x = f .thread in let y = f .low in let z = f .object in omega arith
 
@@ -50,12 +44,6 @@ mul-fitting-in-2 c = let f = fit-there (c .before .before .before) in let x = f 
 add-fitting-in-2 : tie.Need-add-fitting-in-2
 add-fitting-in-2 c = let f = fit-there (c .before .before .before) in let x = f .thread in let y = f .low in let z = f .object in omega arith
 
-fitting-in-requires : tie.Need-fitting-in-requires
-fitting-in-requires c κs = search needs
-
-hand-requires : tie.Need-hand-requires
-hand-requires c κs = search needs
-
 returns-2 : tie.Need-returns-2
 returns-2 c =
     let a = c .before .before .before .before .before .before .before .before .before .before .before .before .args in
@@ -67,17 +55,17 @@ pub bilguzor-take-spec : {M : Type 1} → statement M
 bilguzor-take-spec =
     tie.close
     (tie.spec
-    unfit-requires
+    (λ c κs. search needs)
     returns
     cast-event-of
     cast-event-of-2
     cast-event-of-3
     event-of-requires
-    threads-in-requires
+    (λ c κs. search needs)
     mul-fitting-in
     add-fitting-in
     mul-fitting-in-2
     add-fitting-in-2
-    fitting-in-requires
-    hand-requires
+    (λ c κs. search needs)
+    (λ c κs. search needs)
     returns-2)

@@ -3,11 +3,8 @@ use borrow.Author.Needs.{needs}
 use Rattle.bilguzor.proofs.event_of.Statement.{statement}
 use Rattle.bilguzor.proofs.event_of.Tie as tie
 
-operation-of-requires : tie.Need-operation-of-requires
-operation-of-requires c κs = search needs
-
 returns : tie.Need-returns
 returns c = rw (c .operation-of .ensures, toZ-ofZ (c .before .fits .height))
 
 pub event-of-spec : {M : Type 1} → statement M
-event-of-spec = tie.close (tie.spec operation-of-requires returns)
+event-of-spec = tie.close (tie.spec (λ c κs. search needs) returns)

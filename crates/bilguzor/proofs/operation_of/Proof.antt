@@ -6,9 +6,6 @@ use borrow.Author.Needs.{needs}
 use Rattle.bilguzor.proofs.operation_of.Statement.{statement}
 use Rattle.bilguzor.proofs.operation_of.Tie as tie
 
-cast-o : tie.Need-cast-o
-cast-o c = search needs
-
 returns : tie.Need-returns
 returns c = rw (c .match .keys1, mod-eq-of-lt (c .before .pre (λ z. let f : ⊥ = omega arith in f)))
 
@@ -32,4 +29,4 @@ returns-7 c = rw (ne-eqb _ _ (c .match .rest .0 .0 .0 .0 .0 .1), ne-eqb _ _ (c .
 
 pub operation-of-spec : {M : Type 1} → statement M
 operation-of-spec =
-    tie.close (tie.spec cast-o returns returns-2 returns-3 returns-4 returns-5 returns-6 returns-7)
+    tie.close (tie.spec (λ c. search needs) returns returns-2 returns-3 returns-4 returns-5 returns-6 returns-7)

@@ -43,29 +43,17 @@ stamped c =
 
 -- ---- the needs
 
-slot-of-requires : tie.Need-slot-of-requires
-slot-of-requires c κs = search needs
-
-range-requires : tie.Need-range-requires
-range-requires c κs = search needs
-
 returns : tie.Need-returns
 returns c =
     let a = c .before .before .before .args in
     let out : rangeRefusal (slotOf (a .e)) ≡ 0 → ⊥ = λ z. c .if1 .taken (number (c .before) ∙ z) in
     arrived (a .clocks .now) (a .e) _ _ (stamp-out (a .clocks .now) (a .e) out) (clocks-out (a .clocks .now) (a .e) out)
 
-rows-of-requires : tie.Need-rows-of-requires
-rows-of-requires c κs = search needs
-
 listen-requires : tie.Need-listen-requires
 listen-requires c κs = let f = fit (c .before) in (low (c .before .before), (f .first, f .second))
 
 tell-requires : tie.Need-tell-requires
 tell-requires c κs = fit (c .before .before .before) .told
-
-thread-row-requires : tie.Need-thread-row-requires
-thread-row-requires c κs = search needs
 
 tell-requires-2 : tie.Need-tell-requires-2
 tell-requires-2 c κs =
@@ -83,12 +71,12 @@ pub advance-spec : {M : Type 1} → statement M
 advance-spec =
     tie.close
     (tie.spec
-    slot-of-requires
-    range-requires
+    (λ c κs. search needs)
+    (λ c κs. search needs)
     returns
-    rows-of-requires
+    (λ c κs. search needs)
     listen-requires
     tell-requires
-    thread-row-requires
+    (λ c κs. search needs)
     tell-requires-2
     returns-2)

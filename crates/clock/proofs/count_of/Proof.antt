@@ -6,14 +6,8 @@ use Rattle.clock.proofs.count_of.Tie as tie
 returns : tie.Need-returns
 returns c = rw (le-ltb _ _ (c .if1 .taken))
 
-mul-result : tie.Need-mul-result
-mul-result c = search needs
-
-element-copy-out-result : tie.Need-element-copy-out-result
-element-copy-out-result c = search needs
-
 returns-2 : tie.Need-returns-2
 returns-2 c = rw (lt-ltb _ _ (c .before .if1 .left))
 
 pub count-of-spec : {M : Type 1} → statement M
-count-of-spec = tie.close (tie.spec returns mul-result element-copy-out-result returns-2)
+count-of-spec = tie.close (tie.spec returns (λ c. search needs) (λ c. search needs) returns-2)

@@ -8,9 +8,6 @@ use Rattle.clock.proofs.next_count.Lts as lts
 returns : tie.Need-returns
 returns c = rw (not-true (c .before .args .own) (c .if1 .taken))
 
-add-result : tie.Need-add-result
-add-result c = search needs
-
 returns-2 : tie.Need-returns-2
 returns-2 c = rw (not-false (c .before .before .args .own) (c .before .if1 .left), lt-ltb _ _ (c .if2 .taken))
 
@@ -18,4 +15,4 @@ returns-3 : tie.Need-returns-3
 returns-3 c = rw (not-false (c .before .before .args .own) (c .before .if1 .left), le-ltb _ _ (c .if2 .left))
 
 pub next-count-spec : {M : Type 1} → statement M
-next-count-spec = tie.close (tie.spec returns add-result returns-2 returns-3)
+next-count-spec = tie.close (tie.spec returns (λ c. search needs) returns-2 returns-3)

@@ -21,27 +21,6 @@ abbrev μ-loop : tie.MeasureT-loop
 loop-holds : tie.Need-loop-holds Inv-loop μ-loop
 loop-holds c = (search needs, rw (le-ltb (c .args .t) 0 (omega arith)))
 
-mul-next-count : tie.Need-mul-next-count Inv-loop μ-loop
-mul-next-count c = search needs
-
-element-copy-out-next-count : tie.Need-element-copy-out-next-count Inv-loop μ-loop
-element-copy-out-next-count c = search needs
-
-next-count-requires : tie.Need-next-count-requires Inv-loop μ-loop
-next-count-requires c κs = search needs
-
-mul-r : tie.Need-mul-r Inv-loop μ-loop
-mul-r c = search needs
-
-element-write-r : tie.Need-element-write-r Inv-loop μ-loop
-element-write-r c = search needs
-
-add-i : tie.Need-add-i Inv-loop μ-loop
-add-i c = search needs
-
-loop-less : tie.Need-loop-less Inv-loop μ-loop
-loop-less c = search needs
-
 loop-again : tie.Need-loop-again Inv-loop μ-loop
 loop-again c = (search needs, rw (c .next-count .ensures, c .before .before .before .loop .inv .1) (tick-step (c .before .before .before .before .args .s .at) (c .before .before .before .before .args .t) (c .before .before .before .loop .i)))
 
@@ -55,12 +34,12 @@ tick-spec =
     Inv-loop
     μ-loop
     loop-holds
-    mul-next-count
-    element-copy-out-next-count
-    next-count-requires
-    mul-r
-    element-write-r
-    add-i
-    loop-less
+    (λ c. search needs)
+    (λ c. search needs)
+    (λ c κs. search needs)
+    (λ c. search needs)
+    (λ c. search needs)
+    (λ c. search needs)
+    (λ c. search needs)
     loop-again
     returns)

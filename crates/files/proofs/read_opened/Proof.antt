@@ -10,21 +10,9 @@ use Rattle.files.proofs.read_opened.Tie as tie
 clash : {b : Bool} {n : ℕ} → not b ≡ false → b ≡ false → n ≡ 0
 clash p q = absurd (let z : _≡_ {A = ℕ} 0 1 = cc in omega arith)
 
-returns : tie.Need-returns
-returns c = search needs
-
-read-full-requires : tie.Need-read-full-requires
-read-full-requires c κs = search needs
-
-close-requires : tie.Need-close-requires
-close-requires c κs = search needs
-
-same-length : tie.Need-same-length
-same-length c = search needs
-
 returns-2 : tie.Need-returns-2
 returns-2 c = (search needs, λ h. clash (c .before .before .before .before .before .if1 .left) h)
 
 pub read-opened-spec : {M : Type 1} → statement M
 read-opened-spec =
-    tie.close (tie.spec returns read-full-requires close-requires same-length returns-2)
+    tie.close (tie.spec (λ c. search needs) (λ c κs. search needs) (λ c κs. search needs) (λ c. search needs) returns-2)

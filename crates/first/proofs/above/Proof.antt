@@ -7,9 +7,6 @@ use borrow.Author.Needs.{needs}
 use Rattle.first.proofs.above.Statement.{statement}
 use Rattle.first.proofs.above.Tie as tie
 
-fit-requires : tie.Need-fit-requires
-fit-requires c κs = search needs
-
 returns : tie.Need-returns
 returns c = let f : fits (c .before .before .args .slot) (c .before .before .args .e) ≡ false = sym (c .before .fit .ensures) ∙ not-true _ (c .if1 .taken) in rw f refl
 
@@ -17,4 +14,4 @@ returns-2 : tie.Need-returns-2
 returns-2 c = let f : fits (c .before .before .args .slot) (c .before .before .args .e) ≡ true = sym (c .before .fit .ensures) ∙ not-false _ (c .if1 .left) in rw f (above-is (c .before .before .args .barred) (c .before .before .args .place))
 
 pub above-spec : {M : Type 1} → statement M
-above-spec = tie.close (tie.spec fit-requires returns returns-2)
+above-spec = tie.close (tie.spec (λ c κs. search needs) returns returns-2)

@@ -5,9 +5,6 @@ use borrow.Author.Needs.{needs}
 use Rattle.first.proofs.choose.Statement.{statement}
 use Rattle.first.proofs.choose.Tie as tie
 
-fill-requires : tie.Need-fill-requires
-fill-requires c κs = search needs
-
 returns : tie.Need-returns
 returns c =
     let q = c .before .before .fill .ensures in
@@ -15,9 +12,6 @@ returns c =
       rw q (omega arith),
       λ es ld so t nw. rw q (fills-last so t few (rw q at (c .if1 .taken)), follows-on (omega arith) (λ r. absurd (false≢true r))),
     )
-
-own-stamp-requires : tie.Need-own-stamp-requires
-own-stamp-requires c κs = search needs
 
 look-on-requires : tie.Need-look-on-requires
 look-on-requires c κs =
@@ -51,4 +45,4 @@ returns-2 c =
 pub choose-spec : {M : Type 1} → statement M
 choose-spec =
     tie.close
-    (tie.spec fill-requires returns own-stamp-requires look-on-requires settle-requires returns-2)
+    (tie.spec (λ c κs. search needs) returns (λ c κs. search needs) look-on-requires settle-requires returns-2)

@@ -20,25 +20,10 @@ abbrev μ-loop : tie.MeasureT-loop
 loop-holds : tie.Need-loop-holds Inv-loop μ-loop
 loop-holds c = (search needs, λ es ls. sought ls)
 
-read-event-requires : tie.Need-read-event-requires Inv-loop μ-loop
-read-event-requires c κs = search needs
-
-enum-known-read : tie.Need-enum-known-read Inv-loop μ-loop
-enum-known-read c = search needs
-
 returns : tie.Need-returns Inv-loop μ-loop
 returns c =
     let l = c .before .before .before .loop in
     (search needs, λ es ls. let s = l .inv .1 es ls in not-absent (s .passed) (ahead ls s (c .before .before .loop-test .taken)) (c .before .read-event .result) (c .before .read-event .ensures) (c .match .keys2))
-
-next-count-requires : tie.Need-next-count-requires Inv-loop μ-loop
-next-count-requires c κs = search needs
-
-add-i : tie.Need-add-i Inv-loop μ-loop
-add-i c = search needs
-
-above-requires : tie.Need-above-requires Inv-loop μ-loop
-above-requires c κs = search needs
 
 returns-2 : tie.Need-returns-2 Inv-loop μ-loop
 returns-2 c =
@@ -70,12 +55,12 @@ first-above-spec =
     Inv-loop
     μ-loop
     loop-holds
-    read-event-requires
-    enum-known-read
+    (λ c κs. search needs)
+    (λ c. search needs)
     returns
-    next-count-requires
-    add-i
-    above-requires
+    (λ c κs. search needs)
+    (λ c. search needs)
+    (λ c κs. search needs)
     returns-2
     loop-less
     loop-again

@@ -18,33 +18,6 @@ loop-holds : tie.Need-loop-holds Inv-loop μ-loop
 unfolding notedTo
 loop-holds c = (search needs, refl)
 
-mul-either : tie.Need-mul-either Inv-loop μ-loop
-mul-either c = search needs
-
-array-read-either : tie.Need-array-read-either Inv-loop μ-loop
-array-read-either c = search needs
-
-mul-either-2 : tie.Need-mul-either-2 Inv-loop μ-loop
-mul-either-2 c = search needs
-
-element-copy-out-either : tie.Need-element-copy-out-either Inv-loop μ-loop
-element-copy-out-either c = search needs
-
-either-requires : tie.Need-either-requires Inv-loop μ-loop
-either-requires c κs = search needs
-
-mul-last : tie.Need-mul-last Inv-loop μ-loop
-mul-last c = search needs
-
-element-write-last : tie.Need-element-write-last Inv-loop μ-loop
-element-write-last c = search needs
-
-add-j : tie.Need-add-j Inv-loop μ-loop
-add-j c = search needs
-
-loop-less : tie.Need-loop-less Inv-loop μ-loop
-loop-less c = search needs
-
 loop-again : tie.Need-loop-again Inv-loop μ-loop
 unfolding notedTo
 loop-again c = (search needs, rw (add-one, c .either .ensures, c .before .before .before .loop .inv .1))
@@ -59,14 +32,14 @@ note-spec =
     Inv-loop
     μ-loop
     loop-holds
-    mul-either
-    array-read-either
-    mul-either-2
-    element-copy-out-either
-    either-requires
-    mul-last
-    element-write-last
-    add-j
-    loop-less
+    (λ c. search needs)
+    (λ c. search needs)
+    (λ c. search needs)
+    (λ c. search needs)
+    (λ c κs. search needs)
+    (λ c. search needs)
+    (λ c. search needs)
+    (λ c. search needs)
+    (λ c. search needs)
     loop-again
     returns)

@@ -23,30 +23,12 @@ abbrev μ-loop : tie.MeasureT-loop
 loop-holds : tie.Need-loop-holds Inv-loop μ-loop
 loop-holds c = (search needs, λ es m ls u h. followed ls _ h)
 
-read-event-requires : tie.Need-read-event-requires Inv-loop μ-loop
-read-event-requires c κs = search needs
-
-enum-known-read : tie.Need-enum-known-read Inv-loop μ-loop
-enum-known-read c = search needs
-
 returns : tie.Need-returns Inv-loop μ-loop
 returns c =
     let l = c .before .before .before .loop in
     λ es m ls p u h.
     let f = l .inv .1 es m ls u h in
     not-absent (f .passed) (still-ahead ls f (let t = c .before .before .loop-test .taken in omega arith)) (c .before .read-event .result) (c .before .read-event .ensures) (c .match .keys2)
-
-slot-of-requires : tie.Need-slot-of-requires Inv-loop μ-loop
-slot-of-requires c κs = search needs
-
-number-of-requires : tie.Need-number-of-requires Inv-loop μ-loop
-number-of-requires c κs = search needs
-
-follow-requires : tie.Need-follow-requires Inv-loop μ-loop
-follow-requires c κs = search needs
-
-add-i : tie.Need-add-i Inv-loop μ-loop
-add-i c = search needs
 
 loop-less : tie.Need-loop-less Inv-loop μ-loop
 loop-less c = let t = c .before .before .before .before .before .before .before .before .before .loop-test .taken in omega arith
@@ -71,13 +53,13 @@ pass-spec =
     Inv-loop
     μ-loop
     loop-holds
-    read-event-requires
-    enum-known-read
+    (λ c κs. search needs)
+    (λ c. search needs)
     returns
-    slot-of-requires
-    number-of-requires
-    follow-requires
-    add-i
+    (λ c κs. search needs)
+    (λ c κs. search needs)
+    (λ c κs. search needs)
+    (λ c. search needs)
     loop-less
     loop-again
     returns-2)

@@ -22,33 +22,12 @@ abbrev μ-loop : tie.MeasureT-loop
 loop-holds : tie.Need-loop-holds Inv-loop μ-loop
 loop-holds c = (c .before .pre .0, (search needs, λ es ld so f ls. f))
 
-mul-slot : tie.Need-mul-slot Inv-loop μ-loop
-mul-slot c = search needs
-
-array-copy-out-slot : tie.Need-array-copy-out-slot Inv-loop μ-loop
-array-copy-out-slot c = search needs
-
-count-of-requires : tie.Need-count-of-requires Inv-loop μ-loop
-count-of-requires c κs = search needs
-
-mul-if1 : tie.Need-mul-if1 Inv-loop μ-loop
-mul-if1 c = search needs
-
-element-copy-out-if1 : tie.Need-element-copy-out-if1 Inv-loop μ-loop
-element-copy-out-if1 c = search needs
-
 returns : tie.Need-returns Inv-loop μ-loop
 returns c =
     let l = c .before .before .before .before .before .loop in (
       (l .inv .1 .0, let u = l .inv .0 in omega arith),
       λ es ld so f ls. none-earlier so (l .inv .1 .1 es ld so f ls) (l .inv .0) ls (rw (sym (c .before .before .count-of .ensures)) (c .if1 .taken)),
     )
-
-first-above-requires : tie.Need-first-above-requires Inv-loop μ-loop
-first-above-requires c κs = search needs
-
-fill-requires : tie.Need-fill-requires Inv-loop μ-loop
-fill-requires c κs = search needs
 
 returns-2 : tie.Need-returns-2 Inv-loop μ-loop
 returns-2 c =
@@ -60,12 +39,6 @@ returns-2 c =
           (fills-last so (returns-to so (l .inv .1 .1 es ld so f ls) (l .inv .0) ls (rw (sym (c .before .before .before .before .before .before .count-of .ensures)) (c .before .before .before .before .if1 .left)) _
           (rw (sym (c .before .before .before .before .before .before .count-of .ensures)) (c .before .before .before .first-above .ensures .1 es ld))) (l .inv .0) (rw q at (c .if2 .taken))),
     )
-
-fresh-requires : tie.Need-fresh-requires Inv-loop μ-loop
-fresh-requires c κs = search needs
-
-pass-requires : tie.Need-pass-requires Inv-loop μ-loop
-pass-requires c κs = search needs
 
 look-on-requires : tie.Need-look-on-requires Inv-loop μ-loop
 look-on-requires c κs =
@@ -103,17 +76,17 @@ settle-spec =
     Inv-loop
     μ-loop
     loop-holds
-    mul-slot
-    array-copy-out-slot
-    count-of-requires
-    mul-if1
-    element-copy-out-if1
+    (λ c. search needs)
+    (λ c. search needs)
+    (λ c κs. search needs)
+    (λ c. search needs)
+    (λ c. search needs)
     returns
-    first-above-requires
-    fill-requires
+    (λ c κs. search needs)
+    (λ c κs. search needs)
     returns-2
-    fresh-requires
-    pass-requires
+    (λ c κs. search needs)
+    (λ c κs. search needs)
     look-on-requires
     loop-less
     loop-again)

@@ -12,17 +12,11 @@ use Rattle.height.proofs.in_metres.Tie as tie
 in-range : (mm t : ℤ) → mag mm < 2 ^ 31 → t ≡ tenthsOf (held mm) → mag t < 2 ^ 31 - 1
 in-range mm t h q = subst (λ (z : ℤ). mag z < 2 ^ 31 - 1) (sym (q ∙ ap tenthsOf (held-is mm h))) (rounded-fits mm h)
 
-rounded-requires : tie.Need-rounded-requires
-rounded-requires c κs = search needs
-
 sub-figures : tie.Need-sub-figures
 sub-figures c = negated (c .before .rounded .result) (in-range (c .before .before .args .mm) (c .before .rounded .result) (c .before .before .fits .mm .sfits) (c .before .rounded .ensures)) (c .if1 .taken) .0
 
 cast-figures : tie.Need-cast-figures
 cast-figures c = negated (c .before .rounded .result) (in-range (c .before .before .args .mm) (c .before .rounded .result) (c .before .before .fits .mm .sfits) (c .before .rounded .ensures)) (c .if1 .taken) .1
-
-figures-requires : tie.Need-figures-requires
-figures-requires c κs = search needs
 
 returns : tie.Need-returns
 unfolding metresOf
@@ -30,9 +24,6 @@ returns c = c .figures .ensures ∙ sym (negated (c .before .before .rounded .re
 
 cast-figures-2 : tie.Need-cast-figures-2
 cast-figures-2 c = kept (c .before .rounded .result) (in-range (c .before .before .args .mm) (c .before .rounded .result) (c .before .before .fits .mm .sfits) (c .before .rounded .ensures)) (c .if1 .left) .0
-
-figures-requires-2 : tie.Need-figures-requires-2
-figures-requires-2 c κs = search needs
 
 returns-2 : tie.Need-returns-2
 unfolding metresOf
@@ -42,11 +33,11 @@ pub in-metres-spec : {M : Type 1} → statement M
 in-metres-spec =
     tie.close
     (tie.spec
-    rounded-requires
+    (λ c κs. search needs)
     sub-figures
     cast-figures
-    figures-requires
+    (λ c κs. search needs)
     returns
     cast-figures-2
-    figures-requires-2
+    (λ c κs. search needs)
     returns-2)

@@ -10,32 +10,11 @@ use borrow.Author.Needs.{needs}
 use Rattle.listing_text.proofs.listing.Statement.{statement}
 use Rattle.listing_text.proofs.listing.Tie as tie
 
-empty-requires : tie.Need-empty-requires
-empty-requires c κs = search needs
-
-slice-aggregate-text : tie.Need-slice-aggregate-text
-slice-aggregate-text c = search needs
-
-text-requires : tie.Need-text-requires
-text-requires c κs = search needs
-
 returns : tie.Need-returns
 returns c = (tooLongLine, long-pattern (c .before .before .if1 .taken), omega arith, cc (c .before .before .before .empty .ensures, c .text .ensures))
 
-slice-aggregate-text-2 : tie.Need-slice-aggregate-text-2
-slice-aggregate-text-2 c = search needs
-
-text-requires-2 : tie.Need-text-requires-2
-text-requires-2 c κs = search needs
-
 returns-2 : tie.Need-returns-2
 returns-2 c = (tooLongLine, long-log (c .before .before .if2 .taken), omega arith, cc (c .before .before .before .before .empty .ensures, c .text2 .ensures))
-
-run-requires : tie.Need-run-requires
-run-requires c κs = search needs
-
-verdict-requires : tie.Need-verdict-requires
-verdict-requires c κs = search needs
 
 returns-3 : tie.Need-returns-3
 returns-3 c =
@@ -51,13 +30,13 @@ pub listing-spec : {M : Type 1} → statement M
 listing-spec =
     tie.close
     (tie.spec
-    empty-requires
-    slice-aggregate-text
-    text-requires
+    (λ c κs. search needs)
+    (λ c. search needs)
+    (λ c κs. search needs)
     returns
-    slice-aggregate-text-2
-    text-requires-2
+    (λ c. search needs)
+    (λ c κs. search needs)
     returns-2
-    run-requires
-    verdict-requires
+    (λ c κs. search needs)
+    (λ c κs. search needs)
     returns-3)

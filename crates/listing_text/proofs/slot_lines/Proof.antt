@@ -21,37 +21,10 @@ abbrev μ-loop : tie.MeasureT-loop
 loop-holds : tie.Need-loop-holds Inv-loop μ-loop
 loop-holds c = (omega arith, refl)
 
-mul-n : tie.Need-mul-n Inv-loop μ-loop
-mul-n c = search needs
-
-array-read-n : tie.Need-array-read-n Inv-loop μ-loop
-array-read-n c = search needs
-
 returns : tie.Need-returns Inv-loop μ-loop
 returns c =
     let l = c .before .before .loop in
     at-zero (c .before .before .before .before .args .log .now) (c .before .before .before .before .args .t3) _ (l .p) (l .j) (l .inv .1) (let n : length (c .before .before .before .before .args .t3) ≡ 5 = search needs in let u = c .before .loop-test .taken in omega arith) (c .if1 .taken)
-
-cast-event-numbered : tie.Need-cast-event-numbered Inv-loop μ-loop
-cast-event-numbered c = search needs
-
-event-numbered-requires : tie.Need-event-numbered-requires Inv-loop μ-loop
-event-numbered-requires c κs = search needs
-
-add-slot-line : tie.Need-add-slot-line Inv-loop μ-loop
-add-slot-line c = search needs
-
-cast-slot-line : tie.Need-cast-slot-line Inv-loop μ-loop
-cast-slot-line c = search needs
-
-slot-line-requires : tie.Need-slot-line-requires Inv-loop μ-loop
-slot-line-requires c κs = search needs
-
-add-j : tie.Need-add-j Inv-loop μ-loop
-add-j c = search needs
-
-loop-less : tie.Need-loop-less Inv-loop μ-loop
-loop-less c = search needs
 
 loop-again : tie.Need-loop-again Inv-loop μ-loop
 loop-again c =
@@ -75,15 +48,15 @@ slot-lines-spec =
     Inv-loop
     μ-loop
     loop-holds
-    mul-n
-    array-read-n
+    (λ c. search needs)
+    (λ c. search needs)
     returns
-    cast-event-numbered
-    event-numbered-requires
-    add-slot-line
-    cast-slot-line
-    slot-line-requires
-    add-j
-    loop-less
+    (λ c. search needs)
+    (λ c κs. search needs)
+    (λ c. search needs)
+    (λ c. search needs)
+    (λ c κs. search needs)
+    (λ c. search needs)
+    (λ c. search needs)
     loop-again
     returns-2)

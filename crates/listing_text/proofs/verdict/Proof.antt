@@ -3,42 +3,6 @@ use borrow.Author.Needs.{needs}
 use Rattle.listing_text.proofs.verdict.Statement.{statement}
 use Rattle.listing_text.proofs.verdict.Tie as tie
 
-enum-known-outcome : tie.Need-enum-known-outcome
-enum-known-outcome c = search needs
-
-match-line-requires : tie.Need-match-line-requires
-match-line-requires c κs = search needs
-
-slot-lines-requires : tie.Need-slot-lines-requires
-slot-lines-requires c κs = search needs
-
-enum-told : tie.Need-enum-told
-enum-told c = search needs
-
-slice-aggregate-text : tie.Need-slice-aggregate-text
-slice-aggregate-text c = search needs
-
-text-requires : tie.Need-text-requires
-text-requires c κs = search needs
-
-enum-known-outcome-2 : tie.Need-enum-known-outcome-2
-enum-known-outcome-2 c = search needs
-
-slice-aggregate-text-2 : tie.Need-slice-aggregate-text-2
-slice-aggregate-text-2 c = search needs
-
-text-requires-2 : tie.Need-text-requires-2
-text-requires-2 c κs = search needs
-
-refusal-requires : tie.Need-refusal-requires
-refusal-requires c κs = search needs
-
-enum-known-outcome-3 : tie.Need-enum-known-outcome-3
-enum-known-outcome-3 c = search needs
-
-refusal-requires-2 : tie.Need-refusal-requires-2
-refusal-requires-2 c κs = search needs
-
 returns : tie.Need-returns
 returns c = rw (c .before .before .before .outcome .given .1) (onward _ _ _ _ _ (c .before .match-line .ensures) (c .slot-lines .ensures))
 
@@ -55,18 +19,18 @@ pub verdict-spec : {M : Type 1} → statement M
 verdict-spec =
     tie.close
     (tie.spec
-    enum-known-outcome
-    match-line-requires
-    slot-lines-requires
-    enum-told
-    slice-aggregate-text
-    text-requires
-    enum-known-outcome-2
-    slice-aggregate-text-2
-    text-requires-2
-    refusal-requires
-    enum-known-outcome-3
-    refusal-requires-2
+    (λ c. search needs)
+    (λ c κs. search needs)
+    (λ c κs. search needs)
+    (λ c. search needs)
+    (λ c. search needs)
+    (λ c κs. search needs)
+    (λ c. search needs)
+    (λ c. search needs)
+    (λ c κs. search needs)
+    (λ c κs. search needs)
+    (λ c. search needs)
+    (λ c κs. search needs)
     returns
     returns-2
     returns-3

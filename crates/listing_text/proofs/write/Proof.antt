@@ -4,12 +4,6 @@ use borrow.Author.Needs.{needs}
 use Rattle.listing_text.proofs.write.Statement.{statement}
 use Rattle.listing_text.proofs.write.Tie as tie
 
-listing-requires : tie.Need-listing-requires
-listing-requires c κs = search needs
-
-slice-aggregate-put : tie.Need-slice-aggregate-put
-slice-aggregate-put c = search needs
-
 put-requires : tie.Need-put-requires
 put-requires c κs =
     let t = c .before .before .before .listing .ensures in
@@ -17,9 +11,6 @@ put-requires c κs =
     let f = g .full in
     let s = g .size in
     omega arith
-
-same-length : tie.Need-same-length
-same-length c = search needs
 
 returns : tie.Need-returns
 returns c =
@@ -29,4 +20,4 @@ returns c =
     record { text = t .0; listing = t .1; short = t .2; answer = rw (g .text) at (d .0); buffer = rw (g .text) at (d .1) }
 
 pub write-spec : {M : Type 1} → statement M
-write-spec = tie.close (tie.spec listing-requires slice-aggregate-put put-requires same-length returns)
+write-spec = tie.close (tie.spec (λ c κs. search needs) (λ c. search needs) put-requires (λ c. search needs) returns)

@@ -25,26 +25,8 @@ Inv-loop log first second state₀ clocks₀ watch₀ taken₀ at₀ state clock
 abbrev μ-loop : tie.MeasureT-loop
 μ-loop log first second state₀ clocks₀ watch₀ taken₀ at₀ state clocks watch taken at = length log - at
 
-fresh-requires : tie.Need-fresh-requires Inv-loop μ-loop
-fresh-requires c κs = search needs
-
-fresh-requires-2 : tie.Need-fresh-requires-2 Inv-loop μ-loop
-fresh-requires-2 c κs = search needs
-
 loop-holds : tie.Need-loop-holds Inv-loop μ-loop
 loop-holds c = ([], start (c .before .before .before .args .log .now) (c .before .fresh .result) (c .before .fresh .ensures), c .fresh2 .ensures .1, nothing-yet (c .before .before .before .args .first) (c .before .before .before .args .second))
-
-step-requires : tie.Need-step-requires Inv-loop μ-loop
-step-requires c κs = search needs
-
-enum-known-found : tie.Need-enum-known-found Inv-loop μ-loop
-enum-known-found c = search needs
-
-enum-known-found-2 : tie.Need-enum-known-found-2 Inv-loop μ-loop
-enum-known-found-2 c = search needs
-
-answer-requires : tie.Need-answer-requires Inv-loop μ-loop
-answer-requires c κs = search needs
 
 returns : tie.Need-returns Inv-loop μ-loop
 returns c =
@@ -64,12 +46,6 @@ add-taken : tie.Need-add-taken Inv-loop μ-loop
 add-taken c =
     let r = room (c .before .before .before .before .before .loop .inv .1) (c .before .before .before .step .ensures .1 .1) _ _ (ap steppedIs (c .before .found .given .1)) in
     omega arith
-
-advance-requires : tie.Need-advance-requires Inv-loop μ-loop
-advance-requires c κs = search needs
-
-see-requires : tie.Need-see-requires Inv-loop μ-loop
-see-requires c κs = search needs
 
 loop-less : tie.Need-loop-less Inv-loop μ-loop
 loop-less c =
@@ -98,17 +74,17 @@ query-spec =
     (tie.spec
     Inv-loop
     μ-loop
-    fresh-requires
-    fresh-requires-2
+    (λ c κs. search needs)
+    (λ c κs. search needs)
     loop-holds
-    step-requires
-    enum-known-found
-    enum-known-found-2
-    answer-requires
+    (λ c κs. search needs)
+    (λ c. search needs)
+    (λ c. search needs)
+    (λ c κs. search needs)
     returns
     returns-2
     add-taken
-    advance-requires
-    see-requires
+    (λ c κs. search needs)
+    (λ c κs. search needs)
     loop-less
     loop-again)

@@ -13,19 +13,10 @@ returns-2 : tie.Need-returns-2
 unfolding entry
 returns-2 c = rw (lt-ltb _ _ (c .before .if1 .left), le-ltb _ _ (c .if2 .taken))
 
-mul-result : tie.Need-mul-result
-mul-result c = search needs
-
-add-result : tie.Need-add-result
-add-result c = search needs
-
-element-copy-out-result : tie.Need-element-copy-out-result
-element-copy-out-result c = search needs
-
 returns-3 : tie.Need-returns-3
 unfolding entry
 returns-3 c = rw (lt-ltb _ _ (c .before .before .if1 .left), lt-ltb _ _ (c .before .if2 .left))
 
 pub at-spec : {M : Type 1} → statement M
 at-spec =
-    tie.close (tie.spec returns returns-2 mul-result add-result element-copy-out-result returns-3)
+    tie.close (tie.spec returns returns-2 (λ c. search needs) (λ c. search needs) (λ c. search needs) returns-3)

@@ -18,24 +18,6 @@ loop-holds : tie.Need-loop-holds Inv-loop μ-loop
 unfolding columnTo
 loop-holds c = (search needs, refl)
 
-reaches-requires : tie.Need-reaches-requires Inv-loop μ-loop
-reaches-requires c κs = search needs
-
-mul-before : tie.Need-mul-before Inv-loop μ-loop
-mul-before c = search needs
-
-add-before : tie.Need-add-before Inv-loop μ-loop
-add-before c = search needs
-
-element-write-before : tie.Need-element-write-before Inv-loop μ-loop
-element-write-before c = search needs
-
-add-i : tie.Need-add-i Inv-loop μ-loop
-add-i c = search needs
-
-loop-less : tie.Need-loop-less Inv-loop μ-loop
-loop-less c = search needs
-
 loop-again : tie.Need-loop-again Inv-loop μ-loop
 unfolding columnTo
 loop-again c = (search needs, rw (add-one, ← c .before .before .before .loop .inv .1, c .reaches .ensures))
@@ -50,11 +32,11 @@ column-spec =
     Inv-loop
     μ-loop
     loop-holds
-    reaches-requires
-    mul-before
-    add-before
-    element-write-before
-    add-i
-    loop-less
+    (λ c κs. search needs)
+    (λ c. search needs)
+    (λ c. search needs)
+    (λ c. search needs)
+    (λ c. search needs)
+    (λ c. search needs)
     loop-again
     returns)

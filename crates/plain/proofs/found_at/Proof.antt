@@ -15,15 +15,6 @@ returns-2 : tie.Need-returns-2
 unfolding isAt
 returns-2 c = rw (lt-ltb _ _ (c .before .if1 .left), le-ltb _ _ (c .if2 .taken))
 
-mul-kind : tie.Need-mul-kind
-mul-kind c = search needs
-
-array-read-kind : tie.Need-array-read-kind
-array-read-kind c = search needs
-
-kind-requires : tie.Need-kind-requires
-kind-requires c κs = search needs
-
 returns-3 : tie.Need-returns-3
 unfolding isAt
 returns-3 c = rw (lt-ltb _ _ (c .before .before .before .if1 .left), lt-ltb _ _ (c .before .before .if2 .left), equal (c .before .kind .ensures) refl (c .if3 .taken))
@@ -35,4 +26,4 @@ returns-4 c = rw (lt-ltb _ _ (c .before .before .before .if1 .left), lt-ltb _ _ 
 pub found-at-spec : {M : Type 1} → statement M
 found-at-spec =
     tie.close
-    (tie.spec returns returns-2 mul-kind array-read-kind kind-requires returns-3 returns-4)
+    (tie.spec returns returns-2 (λ c. search needs) (λ c. search needs) (λ c κs. search needs) returns-3 returns-4)

@@ -7,18 +7,9 @@ use Rattle.plain.proofs.Answers.{equal, unequal, told}
 use Rattle.plain.proofs.is_thread_of.Statement.{statement}
 use Rattle.plain.proofs.is_thread_of.Tie as tie
 
-thread-requires : tie.Need-thread-requires
-thread-requires c κs = search needs
-
 returns : tie.Need-returns
 unfolding isThreadOf
 returns c = rw (equal refl (c .before .thread .ensures) (c .if1 .taken))
-
-object-requires : tie.Need-object-requires
-object-requires c κs = search needs
-
-on-thread-requires : tie.Need-on-thread-requires
-on-thread-requires c κs = search needs
 
 returns-2 : tie.Need-returns-2
 unfolding isThreadOf
@@ -29,4 +20,4 @@ unfolding isThreadOf
 returns-3 c = rw (unequal refl (c .before .before .before .thread .ensures) (c .before .before .if1 .left), unequal refl (c .before .object .ensures) (c .if2 .left))
 
 pub is-thread-of-spec : {M : Type 1} → statement M
-is-thread-of-spec = tie.close (tie.spec thread-requires returns object-requires on-thread-requires returns-2 returns-3)
+is-thread-of-spec = tie.close (tie.spec (λ c κs. search needs) returns (λ c κs. search needs) (λ c κs. search needs) returns-2 returns-3)

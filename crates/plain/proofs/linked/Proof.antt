@@ -11,12 +11,6 @@ returns : tie.Need-returns
 unfolding links
 returns c = rw (le-ltb _ _ (c .if1 .taken))
 
-at-requires : tie.Need-at-requires
-at-requires c κs = search needs
-
-dependent-places-requires : tie.Need-dependent-places-requires
-dependent-places-requires c κs = search needs
-
 returns-2 : tie.Need-returns-2
 unfolding links
 returns-2 c = rw (lt-ltb _ _ (c .before .before .before .before .if1 .left), told (c .before .before .before .at .ensures) (c .before .before .if2 .taken), told (c .before .dependent-places .ensures) (c .if3 .taken))
@@ -32,4 +26,4 @@ returns-4 c = rw (lt-ltb _ _ (c .before .before .if1 .left), told (c .before .at
 pub linked-spec : {M : Type 1} → statement M
 linked-spec =
     tie.close
-    (tie.spec returns at-requires dependent-places-requires returns-2 returns-3 returns-4)
+    (tie.spec returns (λ c κs. search needs) (λ c κs. search needs) returns-2 returns-3 returns-4)

@@ -7,15 +7,6 @@ use Rattle.plain.proofs.Answers.{equal, unequal, told}
 use Rattle.plain.proofs.names_thread_of.Statement.{statement}
 use Rattle.plain.proofs.names_thread_of.Tie as tie
 
-on-thread-requires : tie.Need-on-thread-requires
-on-thread-requires c κs = search needs
-
-object-requires : tie.Need-object-requires
-object-requires c κs = search needs
-
-is-thread-of-requires : tie.Need-is-thread-of-requires
-is-thread-of-requires c κs = search needs
-
 returns : tie.Need-returns
 unfolding namesThreadOf
 returns c = rw (told (c .before .before .before .on-thread .ensures) (c .before .before .if1 .taken), ← c .before .object .ensures) (c .is-thread-of .ensures)
@@ -25,4 +16,4 @@ unfolding namesThreadOf
 returns-2 c = rw (told (c .before .on-thread .ensures) (c .if1 .left))
 
 pub names-thread-of-spec : {M : Type 1} → statement M
-names-thread-of-spec = tie.close (tie.spec on-thread-requires object-requires is-thread-of-requires returns returns-2)
+names-thread-of-spec = tie.close (tie.spec (λ c κs. search needs) (λ c κs. search needs) (λ c κs. search needs) returns returns-2)

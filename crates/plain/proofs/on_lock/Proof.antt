@@ -7,9 +7,6 @@ use Rattle.plain.proofs.Answers.{equal, unequal, told}
 use Rattle.plain.proofs.on_lock.Statement.{statement}
 use Rattle.plain.proofs.on_lock.Tie as tie
 
-kind-requires : tie.Need-kind-requires
-kind-requires c κs = search needs
-
 returns : tie.Need-returns
 unfolding onLock
 returns c = rw (equal (c .before .kind .ensures) refl (c .if1 .taken))
@@ -19,4 +16,4 @@ unfolding onLock
 returns-2 c = rw (unequal (c .before .kind .ensures) refl (c .if1 .left), c .before .kind .ensures)
 
 pub on-lock-spec : {M : Type 1} → statement M
-on-lock-spec = tie.close (tie.spec kind-requires returns returns-2)
+on-lock-spec = tie.close (tie.spec (λ c κs. search needs) returns returns-2)

@@ -7,9 +7,6 @@ use Rattle.plain.proofs.Answers.{equal, unequal, told}
 use Rattle.plain.proofs.on_thread.Statement.{statement}
 use Rattle.plain.proofs.on_thread.Tie as tie
 
-kind-requires : tie.Need-kind-requires
-kind-requires c κs = search needs
-
 returns : tie.Need-returns
 unfolding onThread
 returns c = rw (equal (c .before .kind .ensures) refl (c .if1 .taken))
@@ -19,4 +16,4 @@ unfolding onThread
 returns-2 c = rw (unequal (c .before .kind .ensures) refl (c .if1 .left), c .before .kind .ensures)
 
 pub on-thread-spec : {M : Type 1} → statement M
-on-thread-spec = tie.close (tie.spec kind-requires returns returns-2)
+on-thread-spec = tie.close (tie.spec (λ c κs. search needs) returns returns-2)

@@ -7,9 +7,6 @@ use Rattle.plain.proofs.Answers.{equal, unequal, told}
 use Rattle.plain.proofs.on_variable.Statement.{statement}
 use Rattle.plain.proofs.on_variable.Tie as tie
 
-kind-requires : tie.Need-kind-requires
-kind-requires c κs = search needs
-
 returns : tie.Need-returns
 unfolding onVariable
 returns c = rw (equal (c .before .kind .ensures) refl (c .if1 .taken))
@@ -19,4 +16,4 @@ unfolding onVariable
 returns-2 c = rw (unequal (c .before .kind .ensures) refl (c .if1 .left), c .before .kind .ensures)
 
 pub on-variable-spec : {M : Type 1} → statement M
-on-variable-spec = tie.close (tie.spec kind-requires returns returns-2)
+on-variable-spec = tie.close (tie.spec (λ c κs. search needs) returns returns-2)

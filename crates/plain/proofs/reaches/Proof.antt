@@ -18,15 +18,6 @@ loop-holds : tie.Need-loop-holds Inv-loop μ-loop
 unfolding reachesTo
 loop-holds c = (search needs, refl)
 
-linked-requires : tie.Need-linked-requires Inv-loop μ-loop
-linked-requires c κs = search needs
-
-add-k : tie.Need-add-k Inv-loop μ-loop
-add-k c = search needs
-
-loop-less : tie.Need-loop-less Inv-loop μ-loop
-loop-less c = search needs
-
 loop-again : tie.Need-loop-again Inv-loop μ-loop
 unfolding reachesTo
 loop-again c = (search needs, rw (add-one, ← c .before .before .loop .inv .1) (c .linked .ensures))
@@ -37,4 +28,4 @@ returns c = let e : c .before .loop .k ≡ 8 = omega arith in rw e at (c .before
 pub reaches-spec : {M : Type 1} → statement M
 reaches-spec =
     tie.close
-    (tie.spec Inv-loop μ-loop loop-holds linked-requires add-k loop-less loop-again returns)
+    (tie.spec Inv-loop μ-loop loop-holds (λ c κs. search needs) (λ c. search needs) (λ c. search needs) loop-again returns)

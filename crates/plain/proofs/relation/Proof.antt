@@ -18,15 +18,6 @@ loop-holds : tie.Need-loop-holds Inv-loop μ-loop
 unfolding columnsTo
 loop-holds c = (search needs, refl)
 
-column-requires : tie.Need-column-requires Inv-loop μ-loop
-column-requires c κs = search needs
-
-add-j : tie.Need-add-j Inv-loop μ-loop
-add-j c = search needs
-
-loop-less : tie.Need-loop-less Inv-loop μ-loop
-loop-less c = search needs
-
 loop-again : tie.Need-loop-again Inv-loop μ-loop
 unfolding columnsTo
 loop-again c = (search needs, rw (add-one, ← c .before .before .before .loop .inv .1) (c .column .ensures))
@@ -37,4 +28,4 @@ returns c = let e : c .before .loop .j ≡ 8 = omega arith in rw e at (c .before
 pub relation-spec : {M : Type 1} → statement M
 relation-spec =
     tie.close
-    (tie.spec Inv-loop μ-loop loop-holds column-requires add-j loop-less loop-again returns)
+    (tie.spec Inv-loop μ-loop loop-holds (λ c κs. search needs) (λ c. search needs) (λ c. search needs) loop-again returns)

@@ -7,31 +7,13 @@ use Rattle.plain.proofs.Answers.{equal, unequal, told}
 use Rattle.plain.proofs.same_variable_one_write.Statement.{statement}
 use Rattle.plain.proofs.same_variable_one_write.Tie as tie
 
-object-requires : tie.Need-object-requires
-object-requires c κs = search needs
-
-object-requires-2 : tie.Need-object-requires-2
-object-requires-2 c κs = search needs
-
 returns : tie.Need-returns
 unfolding sameVariableOneWrite
 returns c = rw (unequal (c .before .before .object .ensures) (c .before .object2 .ensures) (c .if1 .taken))
 
-kind-requires : tie.Need-kind-requires
-kind-requires c κs = search needs
-
-on-variable-requires : tie.Need-on-variable-requires
-on-variable-requires c κs = search needs
-
 returns-2 : tie.Need-returns-2
 unfolding sameVariableOneWrite
 returns-2 c = rw (equal (c .before .before .before .before .before .object .ensures) (c .before .before .before .before .object2 .ensures) (c .before .before .before .if1 .left), equal (c .before .before .kind .ensures) refl (c .before .if2 .taken)) (c .on-variable .ensures)
-
-kind-requires-2 : tie.Need-kind-requires-2
-kind-requires-2 c κs = search needs
-
-on-variable-requires-2 : tie.Need-on-variable-requires-2
-on-variable-requires-2 c κs = search needs
 
 returns-3 : tie.Need-returns-3
 unfolding sameVariableOneWrite
@@ -42,4 +24,4 @@ unfolding sameVariableOneWrite
 returns-4 c = rw (equal (c .before .before .before .before .before .before .object .ensures) (c .before .before .before .before .before .object2 .ensures) (c .before .before .before .before .if1 .left), unequal (c .before .before .before .kind .ensures) refl (c .before .before .if2 .left), unequal (c .before .kind2 .ensures) refl (c .if3 .left))
 
 pub same-variable-one-write-spec : {M : Type 1} → statement M
-same-variable-one-write-spec = tie.close (tie.spec object-requires object-requires-2 returns kind-requires on-variable-requires returns-2 kind-requires-2 on-variable-requires-2 returns-3 returns-4)
+same-variable-one-write-spec = tie.close (tie.spec (λ c κs. search needs) (λ c κs. search needs) returns (λ c κs. search needs) (λ c κs. search needs) returns-2 (λ c κs. search needs) (λ c κs. search needs) returns-3 returns-4)

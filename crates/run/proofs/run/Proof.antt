@@ -6,15 +6,6 @@ use borrow.Author.Needs.{needs}
 use Rattle.run.proofs.run.Statement.{statement}
 use Rattle.run.proofs.run.Tie as tie
 
-read-pattern-requires : tie.Need-read-pattern-requires
-read-pattern-requires c κs = search needs
-
-enum-known-answer : tie.Need-enum-known-answer
-enum-known-answer c = search needs
-
-enum-told : tie.Need-enum-told
-enum-told c = search needs
-
 run-on-requires : tie.Need-run-on-requires
 run-on-requires c κs =
     let read = c .before .before .before .read-pattern .ensures in
@@ -35,4 +26,4 @@ returns-2 c = let bytes = c .before .before .before .before .before .before .bef
 pub run-spec : {M : Type 1} → statement M
 run-spec =
     tie.close
-    (tie.spec read-pattern-requires enum-known-answer enum-told run-on-requires returns returns-2)
+    (tie.spec (λ c κs. search needs) (λ c. search needs) (λ c. search needs) run-on-requires returns returns-2)

@@ -26,18 +26,6 @@ Inv-loop log slots size wanted state₀ clocks₀ last₀ s₀ taken₀ at₀ st
 abbrev μ-loop : tie.MeasureT-loop
 μ-loop log slots size wanted state₀ clocks₀ last₀ s₀ taken₀ at₀ state clocks last s taken at = length log - at
 
-numbers-of-requires : tie.Need-numbers-of-requires Inv-loop μ-loop
-numbers-of-requires c κs = search needs
-
-fresh-requires : tie.Need-fresh-requires Inv-loop μ-loop
-fresh-requires c κs = search needs
-
-fresh-requires-2 : tie.Need-fresh-requires-2 Inv-loop μ-loop
-fresh-requires-2 c κs = search needs
-
-none-found-requires : tie.Need-none-found-requires Inv-loop μ-loop
-none-found-requires c κs = search needs
-
 loop-holds : tie.Need-loop-holds Inv-loop μ-loop
 loop-holds c =
     let p = c .before .before .before .before .before .before .pre in
@@ -46,25 +34,10 @@ loop-holds c =
     rw (c .none-found .ensures)
     (started so (p .some) (c .before .before .fresh .ensures) (c .before .fresh2 .ensures .1) (none-last so _ (length-replicate {A = ℕ} slotLimit 0) (λ j l. no-numbers j)))
 
-step-requires : tie.Need-step-requires Inv-loop μ-loop
-step-requires c κs = search needs
-
-enum-known-found : tie.Need-enum-known-found Inv-loop μ-loop
-enum-known-found c = search needs
-
-enum-known-found-2 : tie.Need-enum-known-found-2 Inv-loop μ-loop
-enum-known-found-2 c = search needs
-
-judged-by-requires : tie.Need-judged-by-requires Inv-loop μ-loop
-judged-by-requires c κs = search needs
-
 returns : tie.Need-returns Inv-loop μ-loop
 returns c =
     let s = c .before .before .before .before .before .step in
     rw (c .judged-by .ensures) (ended (c .before .before .before .before .before .before .before .loop .inv) (s .ensures .1 .1) (the-end (s .result) (c .before .before .before .before .match .keys2) (c .before .before .before .match2 .keys2)))
-
-log-refused-requires : tie.Need-log-refused-requires Inv-loop μ-loop
-log-refused-requires c κs = search needs
 
 returns-2 : tie.Need-returns-2 Inv-loop μ-loop
 returns-2 c = rw (c .log-refused .ensures) (broke (c .before .before .before .before .before .before .before .loop .inv) (c .before .before .before .before .before .step .ensures .1 .1) _ _ (ap steppedIs (c .before .before .found2 .given .1)))
@@ -74,9 +47,6 @@ add-taken c = let r = room (c .before .before .before .before .before .loop .inv
 
 number-at-requires : tie.Need-number-at-requires Inv-loop μ-loop
 number-at-requires c κs = decode-found true _ _ _ _ (decoded (c .before .before .before .before .before .loop .inv .going) (c .before .before .before .step .ensures .1 .1) _ _ (ap steppedIs (c .before .found .given .1))) .stands
-
-follow-requires : tie.Need-follow-requires Inv-loop μ-loop
-follow-requires c κs = search needs
 
 loop-less : tie.Need-loop-less Inv-loop μ-loop
 loop-less c = shorter (c .before .before .before .before .before .before .before .before .before .before .before .loop .inv .going) (c .before .before .before .before .before .before .before .before .before .step .ensures .1 .1) _ _ (ap steppedIs (c .before .before .before .before .before .before .before .found .given .1))
@@ -117,21 +87,21 @@ run-on-spec =
     (tie.spec
     Inv-loop
     μ-loop
-    numbers-of-requires
-    fresh-requires
-    fresh-requires-2
-    none-found-requires
+    (λ c κs. search needs)
+    (λ c κs. search needs)
+    (λ c κs. search needs)
+    (λ c κs. search needs)
     loop-holds
-    step-requires
-    enum-known-found
-    enum-known-found-2
-    judged-by-requires
+    (λ c κs. search needs)
+    (λ c. search needs)
+    (λ c. search needs)
+    (λ c κs. search needs)
     returns
-    log-refused-requires
+    (λ c κs. search needs)
     returns-2
     add-taken
     number-at-requires
-    follow-requires
+    (λ c κs. search needs)
     loop-less
     loop-again
     choose-requires

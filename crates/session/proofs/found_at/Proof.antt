@@ -7,11 +7,8 @@ use Rattle.session.proofs.found_at.Tie as tie
 returns : tie.Need-returns
 returns c = rw (eq-eqb _ _ (c .if1 .taken))
 
-wide-requires : tie.Need-wide-requires
-wide-requires c κs = search needs
-
 returns-2 : tie.Need-returns-2
 returns-2 c = rw (ne-eqb _ _ (c .before .if1 .left), c .wide .ensures)
 
 pub found-at-spec : {M : Type 1} → statement M
-found-at-spec = tie.close (tie.spec returns wide-requires returns-2)
+found-at-spec = tie.close (tie.spec returns (λ c κs. search needs) returns-2)

@@ -7,18 +7,12 @@ use borrow.Author.Needs.{needs}
 use Rattle.session.proofs.hand.Statement.{statement}
 use Rattle.session.proofs.hand.Tie as tie
 
-admit-requires : tie.Need-admit-requires
-admit-requires c κs = search needs
-
 returns : tie.Need-returns
 returns c =
     let a = c .before .before .before .before .args in
     let k : Kept = record { state = a .state .now; clocks = a .clocks .now; table = a .table .now; taken = a .taken .now; count = a .count .now } in
     let r = c .before .admit .ensures in
     (r .0, kept-refused _ _ _ k (a .e) _ (r .1 .0) (λ z. c .if1 .taken (r .0 ∙ z)))
-
-add-n : tie.Need-add-n
-add-n c = search needs
 
 cast-n : tie.Need-cast-n
 cast-n c =
@@ -34,15 +28,6 @@ returns-2 c =
     let z = sym (r .0) ∙ c .before .before .if1 .left in
     (sym z, kept-taken _ _ _ k _ (a .e) z (kept-matched _ _ _ k (a .e) _ (r .1 .0) (c .if2 .taken)))
 
-advance-requires : tie.Need-advance-requires
-advance-requires c κs = search needs
-
-offer-requires : tie.Need-offer-requires
-offer-requires c κs = search needs
-
-count-at-requires : tie.Need-count-at-requires
-count-at-requires c κs = search needs
-
 returns-3 : tie.Need-returns-3
 returns-3 c =
     let a = c .before .before .before .before .before .before .before .before .before .before .before .before .args in
@@ -56,12 +41,12 @@ pub hand-spec : {M : Type 1} → statement M
 hand-spec =
     tie.close
     (tie.spec
-    admit-requires
+    (λ c κs. search needs)
     returns
-    add-n
+    (λ c. search needs)
     cast-n
     returns-2
-    advance-requires
-    offer-requires
-    count-at-requires
+    (λ c κs. search needs)
+    (λ c κs. search needs)
+    (λ c κs. search needs)
     returns-3)

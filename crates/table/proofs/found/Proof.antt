@@ -26,18 +26,6 @@ returns : tie.Need-returns
 unfolding foundIn
 returns c = both _ _ _ (rw (lt-leb _ _ (c .if1 .taken)))
 
-last-row-requires : tie.Need-last-row-requires
-last-row-requires c κs = search needs
-
-add-result : tie.Need-add-result
-add-result c = search needs
-
-mul-result : tie.Need-mul-result
-mul-result c = search needs
-
-element-copy-out-result : tie.Need-element-copy-out-result
-element-copy-out-result c = search needs
-
 returns-2 : tie.Need-returns-2
 unfolding foundIn
 returns-2 c = both _ _ _ (rw (c .before .last-row .ensures .0, le-leb _ _ (c .before .before .if1 .left)))
@@ -45,4 +33,4 @@ returns-2 c = both _ _ _ (rw (c .before .last-row .ensures .0, le-leb _ _ (c .be
 pub found-spec : {M : Type 1} → statement M
 found-spec =
     tie.close
-    (tie.spec returns last-row-requires add-result mul-result element-copy-out-result returns-2)
+    (tie.spec returns (λ c κs. search needs) (λ c. search needs) (λ c. search needs) (λ c. search needs) returns-2)

@@ -5,12 +5,9 @@ use borrow.Author.Needs.{needs}
 use Rattle.table.proofs.fresh.Statement.{statement}
 use Rattle.table.proofs.fresh.Tie as tie
 
-store-requires : tie.Need-store-requires
-store-requires c κs = search needs
-
 returns : tie.Need-returns
 unfolding freshTable
 returns c = let p : c .store .last .0 ≡ freshTable = c .store .ensures in (p, λ fits ss l. rw p (nothing-yet fits ss l))
 
 pub fresh-spec : {M : Type 1} → statement M
-fresh-spec = tie.close (tie.spec store-requires returns)
+fresh-spec = tie.close (tie.spec (λ c κs. search needs) returns)

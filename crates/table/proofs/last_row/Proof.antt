@@ -9,9 +9,6 @@ use Rattle.table.proofs.last_row.Tie as tie
 bounds : (c : tie.After-power) → (1 ≤ c .power .result) × (c .power .result ≤ sets)
 bounds c = rw (c .power .ensures) (powers (c .before .args .size) (c .before .pre))
 
-power-requires : tie.Need-power-requires
-power-requires c κs = search needs
-
 sub-result : tie.Need-sub-result
 sub-result c = omega (arith, bounds c)
 
@@ -22,4 +19,4 @@ returns : tie.Need-returns
 returns c = let h = bounds c in (rw (c .power .ensures), omega arith)
 
 pub last-row-spec : {M : Type 1} → statement M
-last-row-spec = tie.close (tie.spec power-requires sub-result mul-result returns)
+last-row-spec = tie.close (tie.spec (λ c κs. search needs) sub-result mul-result returns)

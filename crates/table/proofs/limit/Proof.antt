@@ -10,14 +10,8 @@ returns c = rw (not-true (c .before .args .later) (c .if1 .taken))
 returns-2 : tie.Need-returns-2
 returns-2 c = rw (not-false (c .before .before .args .later) (c .before .if1 .left), le-ltb _ _ (c .if2 .taken))
 
-mul-result : tie.Need-mul-result
-mul-result c = search needs
-
-element-copy-out-result : tie.Need-element-copy-out-result
-element-copy-out-result c = search needs
-
 returns-3 : tie.Need-returns-3
 returns-3 c = rw (not-false (c .before .before .before .args .later) (c .before .before .if1 .left), lt-ltb _ _ (c .before .if2 .left))
 
 pub limit-spec : {M : Type 1} → statement M
-limit-spec = tie.close (tie.spec returns returns-2 mul-result element-copy-out-result returns-3)
+limit-spec = tie.close (tie.spec returns returns-2 (λ c. search needs) (λ c. search needs) returns-3)

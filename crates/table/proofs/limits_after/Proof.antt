@@ -19,24 +19,6 @@ loop-holds : tie.Need-loop-holds Inv-loop μ-loop
 unfolding limitsTo
 loop-holds c = (search needs, refl)
 
-array-read-limit : tie.Need-array-read-limit Inv-loop μ-loop
-array-read-limit c = search needs
-
-limit-requires : tie.Need-limit-requires Inv-loop μ-loop
-limit-requires c κs = search needs
-
-mul-r : tie.Need-mul-r Inv-loop μ-loop
-mul-r c = search needs
-
-element-write-r : tie.Need-element-write-r Inv-loop μ-loop
-element-write-r c = search needs
-
-add-j : tie.Need-add-j Inv-loop μ-loop
-add-j c = search needs
-
-loop-less : tie.Need-loop-less Inv-loop μ-loop
-loop-less c = search needs
-
 loop-again : tie.Need-loop-again Inv-loop μ-loop
 unfolding limitsTo
 loop-again c = (search needs, rw (add-one, c .limit .ensures, c .before .before .loop .inv .1))
@@ -51,11 +33,11 @@ limits-after-spec =
     Inv-loop
     μ-loop
     loop-holds
-    array-read-limit
-    limit-requires
-    mul-r
-    element-write-r
-    add-j
-    loop-less
+    (λ c. search needs)
+    (λ c κs. search needs)
+    (λ c. search needs)
+    (λ c. search needs)
+    (λ c. search needs)
+    (λ c. search needs)
     loop-again
     returns)

@@ -34,9 +34,6 @@ abbrev μ-loop : tie.MeasureT-loop
 found-is : (c : tie.Else1 Inv-loop μ-loop) → foundIn (c .before .before .args .table .now) (c .before .before .args .size) ≡ true
 found-is c = sym (c .before .found .ensures .0) ∙ not-false _ (c .if1 .left)
 
-found-requires : tie.Need-found-requires Inv-loop μ-loop
-found-requires c κs = search needs
-
 returns : tie.Need-returns Inv-loop μ-loop
 unfolding numbersIn
 returns c = both _ _ _ (rw (sym (c .before .found .ensures .0) ∙ not-true _ (c .if1 .taken)))
@@ -47,30 +44,6 @@ last-row-requires c κs = found-small _ _ (found-is c)
 loop-holds : tie.Need-loop-holds Inv-loop μ-loop
 unfolding pasted
 loop-holds c = (search needs, found-small _ _ (found-is (c .before)), c .last-row .ensures .1, refl)
-
-add-r : tie.Need-add-r Inv-loop μ-loop
-add-r c = search needs
-
-add-r-2 : tie.Need-add-r-2 Inv-loop μ-loop
-add-r-2 c = search needs
-
-mul-r : tie.Need-mul-r Inv-loop μ-loop
-mul-r c = search needs
-
-element-copy-out-r : tie.Need-element-copy-out-r Inv-loop μ-loop
-element-copy-out-r c = search needs
-
-mul-r-2 : tie.Need-mul-r-2 Inv-loop μ-loop
-mul-r-2 c = search needs
-
-array-write-r : tie.Need-array-write-r Inv-loop μ-loop
-array-write-r c = search needs
-
-add-j : tie.Need-add-j Inv-loop μ-loop
-add-j c = search needs
-
-loop-less : tie.Need-loop-less Inv-loop μ-loop
-loop-less c = search needs
 
 loop-again : tie.Need-loop-again Inv-loop μ-loop
 unfolding pasted
@@ -86,17 +59,17 @@ numbers-spec =
     (tie.spec
     Inv-loop
     μ-loop
-    found-requires
+    (λ c κs. search needs)
     returns
     last-row-requires
     loop-holds
-    add-r
-    add-r-2
-    mul-r
-    element-copy-out-r
-    mul-r-2
-    array-write-r
-    add-j
-    loop-less
+    (λ c. search needs)
+    (λ c. search needs)
+    (λ c. search needs)
+    (λ c. search needs)
+    (λ c. search needs)
+    (λ c. search needs)
+    (λ c. search needs)
+    (λ c. search needs)
     loop-again
     returns-2)

@@ -63,29 +63,11 @@ returns-2 : tie.Need-returns-2 Inv-loop μ-loop
 unfolding offered
 returns-2 c = both _ _ _ _ _ _ _ _ (rw (lt-ltb _ _ (c .before .if1 .left), lt-leb _ _ (c .if2 .taken)))
 
-mul-one-less : tie.Need-mul-one-less Inv-loop μ-loop
-mul-one-less c = search needs
-
-element-copy-out-one-less : tie.Need-element-copy-out-one-less Inv-loop μ-loop
-element-copy-out-one-less c = search needs
-
-one-less-requires : tie.Need-one-less-requires Inv-loop μ-loop
-one-less-requires c κs = search needs
-
-power-requires : tie.Need-power-requires Inv-loop μ-loop
-power-requires c κs = search needs
-
 loop-holds : tie.Need-loop-holds Inv-loop μ-loop
 loop-holds c = (search needs, refl)
 
-sub-k : tie.Need-sub-k Inv-loop μ-loop
-sub-k c = search needs
-
 array-read-if3 : tie.Need-array-read-if3 Inv-loop μ-loop
 array-read-if3 c = let s : c .before .before .before .before .before .before .before .args .size ≤ slotLimit = c .before .before .before .before .before .if2 .left in omega arith
-
-limits-after-requires : tie.Need-limits-after-requires Inv-loop μ-loop
-limits-after-requires c κs = search needs
 
 sweep-requires : tie.Need-sweep-requires Inv-loop μ-loop
 sweep-requires c κs =
@@ -93,16 +75,10 @@ sweep-requires c κs =
     let l : s .before .before .args .size ≤ slotLimit = s .if2 .left in
     (omega arith, let h = powers (s .before .before .args .size) l in omega (arith, c .before .before .before .before .before .power .ensures))
 
-loop-less : tie.Need-loop-less Inv-loop μ-loop
-loop-less c = search needs
-
 loop-again : tie.Need-loop-again Inv-loop μ-loop
 loop-again c =
     let l = c .before .before .before .before .before in
     (search needs, fitting _ _ _ _ _ _ _ _ _ _ _ _ (c .before .before .before .before .loop-test .taken) (l .before .power .ensures) (l .before .before .one-less .ensures) (c .before .before .limits-after .ensures) (c .before .before .before .if3 .taken) (c .sweep .ensures) ∙ l .loop .inv .1)
-
-loop-less-2 : tie.Need-loop-less-2 Inv-loop μ-loop
-loop-less-2 c = search needs
 
 loop-again-2 : tie.Need-loop-again-2 Inv-loop μ-loop
 loop-again-2 c = (search needs, passing _ _ _ _ _ _ _ _ (c .before .loop-test .taken) (c .if3 .left) ∙ c .before .before .loop .inv .1)
@@ -122,17 +98,17 @@ offer-spec =
     μ-loop
     returns
     returns-2
-    mul-one-less
-    element-copy-out-one-less
-    one-less-requires
-    power-requires
+    (λ c. search needs)
+    (λ c. search needs)
+    (λ c κs. search needs)
+    (λ c κs. search needs)
     loop-holds
-    sub-k
+    (λ c. search needs)
     array-read-if3
-    limits-after-requires
+    (λ c κs. search needs)
     sweep-requires
-    loop-less
+    (λ c. search needs)
     loop-again
-    loop-less-2
+    (λ c. search needs)
     loop-again-2
     returns-3)

@@ -18,24 +18,6 @@ loop-holds : tie.Need-loop-holds Inv-loop μ-loop
 unfolding roomTo
 loop-holds c = (search needs, refl)
 
-mul-ok : tie.Need-mul-ok Inv-loop μ-loop
-mul-ok c = search needs
-
-element-copy-out-ok : tie.Need-element-copy-out-ok Inv-loop μ-loop
-element-copy-out-ok c = search needs
-
-mul-ok-2 : tie.Need-mul-ok-2 Inv-loop μ-loop
-mul-ok-2 c = search needs
-
-element-copy-out-ok-2 : tie.Need-element-copy-out-ok-2 Inv-loop μ-loop
-element-copy-out-ok-2 c = search needs
-
-add-j : tie.Need-add-j Inv-loop μ-loop
-add-j c = search needs
-
-loop-less : tie.Need-loop-less Inv-loop μ-loop
-loop-less c = search needs
-
 loop-again : tie.Need-loop-again Inv-loop μ-loop
 unfolding roomTo
 loop-again c = (search needs, rw (add-one, c .before .before .before .loop .inv .1))
@@ -50,11 +32,11 @@ room-spec =
     Inv-loop
     μ-loop
     loop-holds
-    mul-ok
-    element-copy-out-ok
-    mul-ok-2
-    element-copy-out-ok-2
-    add-j
-    loop-less
+    (λ c. search needs)
+    (λ c. search needs)
+    (λ c. search needs)
+    (λ c. search needs)
+    (λ c. search needs)
+    (λ c. search needs)
     loop-again
     returns)

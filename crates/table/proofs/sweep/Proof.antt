@@ -25,15 +25,9 @@ turn : (c : tie.In-loop Inv-loop μ-loop)
     → c .before .loop .i + c .before .loop .i / 2 ^ c .before .before .before .args .entry .slot * c .before .before .power .result + c .before .before .power .result < sets
 turn c = let a = c .before .before .before in inside (a .args .entry .slot) _ (a .args .half) (c .before .loop .i) (a .pre .0) (c .before .before .power .ensures) (a .pre .1) (c .loop-test .taken)
 
-power-requires : tie.Need-power-requires Inv-loop μ-loop
-power-requires c κs = search needs
-
 loop-holds : tie.Need-loop-holds Inv-loop μ-loop
 unfolding sweptTo
 loop-holds c = (search needs, refl)
-
-shr-m : tie.Need-shr-m Inv-loop μ-loop
-shr-m c = search needs
 
 mul-m : tie.Need-mul-m Inv-loop μ-loop
 mul-m c = let l = turn c in omega arith
@@ -43,12 +37,6 @@ add-m c = let l = turn c in omega arith
 
 offer-set-requires : tie.Need-offer-set-requires Inv-loop μ-loop
 offer-set-requires c κs = (c .before .before .before .before .pre .0, (turn (c .before), c .before .before .before .power .ensures))
-
-add-i : tie.Need-add-i Inv-loop μ-loop
-add-i c = search needs
-
-loop-less : tie.Need-loop-less Inv-loop μ-loop
-loop-less c = search needs
 
 loop-again : tie.Need-loop-again Inv-loop μ-loop
 unfolding sweptTo spread
@@ -63,13 +51,13 @@ sweep-spec =
     (tie.spec
     Inv-loop
     μ-loop
-    power-requires
+    (λ c κs. search needs)
     loop-holds
-    shr-m
+    (λ c. search needs)
     mul-m
     add-m
     offer-set-requires
-    add-i
-    loop-less
+    (λ c. search needs)
+    (λ c. search needs)
     loop-again
     returns)

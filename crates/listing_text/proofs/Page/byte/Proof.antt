@@ -7,14 +7,8 @@ use Rattle.listing_text.proofs.Page.byte.Tie as tie
 returns : tie.Need-returns
 returns c = rw (le-ltb _ _ (c .if1 .taken)) refl
 
-element-write-self : tie.Need-element-write-self
-element-write-self c = search needs
-
-add-self : tie.Need-add-self
-add-self c = search needs
-
 returns-2 : tie.Need-returns-2
 returns-2 c = rw (lt-ltb _ _ (c .if1 .left)) refl
 
 pub byte-spec : {M : Type 1} → statement M
-byte-spec = tie.close (tie.spec returns element-write-self add-self returns-2)
+byte-spec = tie.close (tie.spec returns (λ c. search needs) (λ c. search needs) returns-2)

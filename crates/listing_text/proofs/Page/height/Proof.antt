@@ -8,16 +8,10 @@ use borrow.Author.Needs.{needs}
 use Rattle.listing_text.proofs.Page.height.Statement.{statement}
 use Rattle.listing_text.proofs.Page.height.Tie as tie
 
-in-metres-requires : tie.Need-in-metres-requires
-in-metres-requires c κs = search needs
-
-metres-requires : tie.Need-metres-requires
-metres-requires c κs = search needs
-
 returns : tie.Need-returns
 unfolding heightText
 returns c = c .metres .ensures ∙ ap (λ (m : Metres). onto (c .before .before .args .self) (metresText m))
     (c .before .in-metres .ensures ∙ ap metresOf (held-is (c .before .before .args .mm) (c .before .before .fits .mm .sfits)))
 
 pub height-spec : {M : Type 1} → statement M
-height-spec = tie.close (tie.spec in-metres-requires metres-requires returns)
+height-spec = tie.close (tie.spec (λ c κs. search needs) (λ c κs. search needs) returns)

@@ -6,11 +6,8 @@ use Rattle.order.proofs.Watch.meet.Tie as tie
 returns : tie.Need-returns
 returns c = rw (ne-eqb _ _ (c .if1 .taken))
 
-count-of-requires : tie.Need-count-of-requires
-count-of-requires c κs = search needs
-
 returns-2 : tie.Need-returns-2
 returns-2 c = rw (eq-eqb _ _ (c .before .if1 .left)) (cc (c .count-of .ensures))
 
 pub meet-spec : {M : Type 1} → statement M
-meet-spec = tie.close (tie.spec returns count-of-requires returns-2)
+meet-spec = tie.close (tie.spec returns (λ c κs. search needs) returns-2)

@@ -5,14 +5,8 @@ use borrow.Author.Needs.{needs}
 use Rattle.order.proofs.Watch.see.Statement.{statement}
 use Rattle.order.proofs.Watch.see.Tie as tie
 
-meet-requires : tie.Need-meet-requires
-meet-requires c κs = search needs
-
-judge-requires : tie.Need-judge-requires
-judge-requires c κs = search needs
-
 returns : tie.Need-returns
 returns c = c .judge .ensures ∙ ap (λ (w : Watch). judged w (c .before .before .args .n) (c .before .before .args .stamp)) (c .before .meet .ensures)
 
 pub see-spec : {M : Type 1} → statement M
-see-spec = tie.close (tie.spec meet-requires judge-requires returns)
+see-spec = tie.close (tie.spec (λ c κs. search needs) (λ c κs. search needs) returns)

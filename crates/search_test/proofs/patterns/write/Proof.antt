@@ -12,45 +12,18 @@ Inv-loop buffer₀ k at₀ i₀ buffer at i = (i ≤ 5) × (length buffer ≡ le
 abbrev μ-loop : tie.MeasureT-loop
 μ-loop buffer₀ k at₀ i₀ buffer at i = 5 - i
 
-loop-holds : tie.Need-loop-holds Inv-loop μ-loop
-loop-holds c = search needs
-
-write-one-requires : tie.Need-write-one-requires Inv-loop μ-loop
-write-one-requires c κs = search needs
-
-add-i : tie.Need-add-i Inv-loop μ-loop
-add-i c = search needs
-
-loop-less : tie.Need-loop-less Inv-loop μ-loop
-loop-less c = search needs
-
-loop-again : tie.Need-loop-again Inv-loop μ-loop
-loop-again c = search needs
-
-write-end-requires : tie.Need-write-end-requires Inv-loop μ-loop
-write-end-requires c κs = search needs
-
-place-after-requires : tie.Need-place-after-requires Inv-loop μ-loop
-place-after-requires c κs = search needs
-
-same-length : tie.Need-same-length Inv-loop μ-loop
-same-length c = search needs
-
-returns : tie.Need-returns Inv-loop μ-loop
-returns c = search needs
-
 pub write-spec : {M : Type 1} → statement M
 write-spec =
     tie.close
     (tie.spec
     Inv-loop
     μ-loop
-    loop-holds
-    write-one-requires
-    add-i
-    loop-less
-    loop-again
-    write-end-requires
-    place-after-requires
-    same-length
-    returns)
+    (λ c. search needs)
+    (λ c κs. search needs)
+    (λ c. search needs)
+    (λ c. search needs)
+    (λ c. search needs)
+    (λ c κs. search needs)
+    (λ c κs. search needs)
+    (λ c. search needs)
+    (λ c. search needs))

@@ -7,15 +7,6 @@ use borrow.Author.Needs.{needs}
 use Rattle.session.proofs.Session.open.Statement.{statement}
 use Rattle.session.proofs.Session.open.Tie as tie
 
-read-pattern-requires : tie.Need-read-pattern-requires
-read-pattern-requires c κs = search needs
-
-or-lone-requires : tie.Need-or-lone-requires
-or-lone-requires c κs = search needs
-
-fresh-requires : tie.Need-fresh-requires
-fresh-requires c κs = search needs
-
 returns : tie.Need-returns
 returns c = let bytes = c .before .before .before .before .before .args .pattern .now in
     let is-bytes : Bytes bytes = λ k. c .before .before .before .before .shared-slice-known .given k .fits in
@@ -29,4 +20,4 @@ returns c = let bytes = c .before .before .before .before .before .args .pattern
     }
 
 pub open-spec : {M : Type 1} → statement M
-open-spec = tie.close (tie.spec read-pattern-requires or-lone-requires fresh-requires returns)
+open-spec = tie.close (tie.spec (λ c κs. search needs) (λ c κs. search needs) (λ c κs. search needs) returns)

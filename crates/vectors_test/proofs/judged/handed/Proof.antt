@@ -16,30 +16,6 @@ Inv-loop log s₀ at₀ t10 s at = Unit
 abbrev μ-loop : tie.MeasureT-loop
 μ-loop log s₀ at₀ t10 s at = length log - at
 
-loop-holds : tie.Need-loop-holds Inv-loop μ-loop
-loop-holds c = search needs
-
-decode-requires : tie.Need-decode-requires Inv-loop μ-loop
-decode-requires c κs = search needs
-
-enum-known-step : tie.Need-enum-known-step Inv-loop μ-loop
-enum-known-step c = search needs
-
-returns : tie.Need-returns Inv-loop μ-loop
-returns c = search needs
-
-take-requires : tie.Need-take-requires Inv-loop μ-loop
-take-requires c κs = search needs
-
-show-answer-requires : tie.Need-show-answer-requires Inv-loop μ-loop
-show-answer-requires c κs = search needs
-
-slice-aggregate-text : tie.Need-slice-aggregate-text Inv-loop μ-loop
-slice-aggregate-text c = search needs
-
-text-requires : tie.Need-text-requires Inv-loop μ-loop
-text-requires c κs = search needs
-
 loop-less : tie.Need-loop-less Inv-loop μ-loop
 loop-less c = let bytes = c .before .before .before .before .before .before .before .before .before .before .before .args .log .now in
     let step = c .before .before .before .before .before .before .step .given in
@@ -47,22 +23,19 @@ loop-less c = let bytes = c .before .before .before .before .before .before .bef
     let m = goes-on true bytes (c .before .before .before .before .before .before .before .before .before .loop .at) (step .0 .0) (step .0 .1 .0) q in
     omega arith
 
-loop-again : tie.Need-loop-again Inv-loop μ-loop
-loop-again c = search needs
-
 pub handed-spec : {M : Type 1} → statement M
 handed-spec =
     tie.close
     (tie.spec
     Inv-loop
     μ-loop
-    loop-holds
-    decode-requires
-    enum-known-step
-    returns
-    take-requires
-    show-answer-requires
-    slice-aggregate-text
-    text-requires
+    (λ c. search needs)
+    (λ c κs. search needs)
+    (λ c. search needs)
+    (λ c. search needs)
+    (λ c κs. search needs)
+    (λ c κs. search needs)
+    (λ c. search needs)
+    (λ c κs. search needs)
     loop-less
-    loop-again)
+    (λ c. search needs))
