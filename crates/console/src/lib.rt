@@ -1,5 +1,9 @@
-// What test programs print.
+// What test programs share: what they print, and how they look at bytes.
 // Used by test programs only: proved safe; what they print is compared with stored output.
+ghost use mathlib.Core.Path.{_≡_};
+ghost use mathlib.Core.Bool.{true};
+ghost use Prim.Native.Nat.{_≤_};
+ghost use lib.ListN.{length, take};
 
 pub fn text(s: &[u8]) {
     io::write_all(1, s);
@@ -48,4 +52,26 @@ pub fn bytes(s: &[u8]) {
     for i in 0..s.len() {
         byte(s[i]);
     }
+}
+
+// The first place from `from` on that holds `b`, or the length.
+pub fn find(s: &[u8], from: usize, b: u8) -> usize
+    ensures { λ r. ⌜ (r ≤ length (now (s .entry))) × (from ≤ length (now (s .entry)) → from ≤ r) ⌝ }
+{
+    for i in from..s.len() {
+        if s[i] == b {
+            return i;
+        }
+    }
+    s.len()
+}
+
+// Whether s has n bytes, and the first n are the text.
+pub fn starts_with(s: &[u8], n: usize, text: &[u8]) -> bool
+    ensures { λ r. ⌜ (r ≡ true → take n (now (s .entry)) ≡ now (text .entry)) ⌝ }
+{
+    if s.len() < n {
+        return false;
+    }
+    check::same(&s[..n], text)
 }

@@ -52,25 +52,10 @@ fn verdict(same: bool) {
 // Whether the listing was written, and is the text.
 fn holds(written: Written, page: &[u8], text: &[u8]) -> bool {
     match written {
-        Written::Next { at } => same(page, at, text),
+        Written::Next { at } => console::starts_with(page, at, text),
         Written::Refused {
             number: _,
             offset: _,
         } => false,
     }
-}
-
-fn same(page: &[u8], size: usize, text: &[u8]) -> bool {
-    if size != text.len() {
-        return false;
-    }
-    for i in 0..size {
-        if page.len() <= i {
-            return false;
-        }
-        if page[i] != text[i] {
-            return false;
-        }
-    }
-    true
 }

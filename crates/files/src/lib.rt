@@ -22,8 +22,8 @@ pub fn read(folder: &[u8], name: &[u8], space: &mut [u8]) -> usize
     ensures { λ r. ⌜ Counts r (now (space .exit)) ⌝ }
 {
     let mut path = io::buffer();
-    let start = put(&mut path, 0, folder);
-    let end = put(&mut path, start, name);
+    let start = append(&mut path, 0, folder);
+    let end = append(&mut path, start, name);
     let size = within(end, &path);
     let fd = os::open_read(&path[..size]);
     read_opened(0 <= fd, fd, space)
@@ -41,7 +41,7 @@ fn read_opened(opened: bool, fd: i32, space: &mut [u8]) -> usize
 }
 
 // Puts the bytes at a place of the path, as far as there is room, and answers the place after them.
-fn put(path: &mut [u8], from: usize, bytes: &[u8]) -> usize {
+fn append(path: &mut [u8], from: usize, bytes: &[u8]) -> usize {
     let mut at = from;
     for i in 0..bytes.len() {
         at = put_byte(path, at, bytes[i]);

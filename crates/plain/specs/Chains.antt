@@ -1,43 +1,36 @@
 -- Which events, as numbers, are dependent, by document 01's list; and the table of which comes before which.
 use Prim.Native.Nat.{ℕ, zero, suc, _+_, _*_}
-use mathlib.Core.Bool.{Bool, true, false, cond}
+use mathlib.Core.Bool.{Bool, true, false, cond, _&&_, _||_}
 use mathlib.Core.List.{List}
 use lib.Dec.{eqb, ltb}
 use lib.ListN.{getD, set, replicate}
-use Rattle.plain.specs.Numbers.{kindOf, threadOf, objectOf}
+use Rattle.plain.specs.Numbers.{kindIn, threadIn, objectIn}
 
--- reads and writes; acquires and releases; forks and joins
-unfoldable pub onVariable : ℕ → Bool
-onVariable a = cond (eqb (kindOf a) 1) true (eqb (kindOf a) 2)
-
-unfoldable pub onLock : ℕ → Bool
-onLock a = cond (eqb (kindOf a) 3) true (eqb (kindOf a) 4)
-
-unfoldable pub onThread : ℕ → Bool
-onThread a = cond (eqb (kindOf a) 5) true (eqb (kindOf a) 6)
+-- of one of two kinds: reads and writes, acquires and releases, forks and joins
+abbrev pub ofKinds : ℕ → ℕ → ℕ → Bool
+ofKinds a x y = eqb (kindIn a) x || eqb (kindIn a) y
 
 -- "they touch the same variable and at least one is a write"
 unfoldable pub sameVariableOneWrite : ℕ → ℕ → Bool
 sameVariableOneWrite a b =
-    cond (eqb (objectOf a) (objectOf b)) (cond (eqb (kindOf a) 2) (onVariable b) (cond (eqb (kindOf b) 2) (onVariable a) false)) false
+    (eqb (objectIn a) (objectIn b) && (ofKinds a 1 2 && ofKinds b 1 2)) && (eqb (kindIn a) 2 || eqb (kindIn b) 2)
 
 -- "they touch the same lock"
 unfoldable pub sameLock : ℕ → ℕ → Bool
-sameLock a b = cond (eqb (objectOf a) (objectOf b)) (cond (onLock a) (onLock b) false) false
+sameLock a b = (eqb (objectIn a) (objectIn b) && ofKinds a 3 4) && ofKinds b 3 4
 
 -- b acts as a thread, forks or joins it
 unfoldable pub isThreadOf : ℕ → ℕ → Bool
-isThreadOf named b = cond (eqb named (threadOf b)) true (cond (eqb named (objectOf b)) (onThread b) false)
+isThreadOf named b = eqb named (threadIn b) || (eqb named (objectIn b) && ofKinds b 5 6)
 
 -- a forks or joins a thread which b acts as, forks or joins
 unfoldable pub namesThreadOf : ℕ → ℕ → Bool
-namesThreadOf a b = cond (onThread a) (isThreadOf (objectOf a) b) false
+namesThreadOf a b = ofKinds a 5 6 && isThreadOf (objectIn a) b
 
 -- "Two events are dependent exactly when one of these holds"
 unfoldable pub dependent : ℕ → ℕ → Bool
 dependent a b =
-    cond (eqb (threadOf a) (threadOf b)) true
-    (cond (sameVariableOneWrite a b) true (cond (sameLock a b) true (cond (namesThreadOf a b) true (namesThreadOf b a))))
+    (eqb (threadIn a) (threadIn b) || (sameVariableOneWrite a b || sameLock a b)) || (namesThreadOf a b || namesThreadOf b a)
 
 -- of the events at two places, counted from 0, of eight
 unfoldable pub dependentAt : List ℕ → ℕ → ℕ → Bool
@@ -49,7 +42,7 @@ entry before i j = cond (ltb i 8) (cond (ltb j 8) (getD before (8 * j + i) false
 
 -- event n, of `count` of eight events, is of the kind
 unfoldable pub isAt : List ℕ → ℕ → ℕ → ℕ → Bool
-isAt events count kind n = cond (ltb n 8) (cond (ltb n count) (eqb (kindOf (getD events n 0)) kind) false) false
+isAt events count kind n = cond (ltb n 8) (cond (ltb n count) (eqb (kindIn (getD events n 0)) kind) false) false
 
 -- one of the events before place n is of the kind
 unfoldable pub holdsTo : ℕ → List ℕ → ℕ → ℕ → Bool

@@ -1,4 +1,3 @@
--- Events as numbers, which of them are dependent, and what drawing small logs promises.
+-- Events as numbers, and which of them are dependent.
 pub mod Numbers
 pub mod Chains
-pub mod Drawing

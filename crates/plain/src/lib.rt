@@ -1,15 +1,13 @@
 // The order of a log of at most eight events, computed from document 01's words: dependent pairs, and chains of them rising in the log.
 // Used by test programs only.
-pub mod drawn;
-
 use command::EventRead;
 use event::Event;
-use event::Operation;
 ghost use mathlib.Core.Path.{_≡_};
-ghost use mathlib.Core.Bool.{true, cond};
+ghost use mathlib.Core.Bool.{true, cond, _||_};
+ghost use lib.Dec.{eqb};
 ghost use Prim.Native.Nat.{_+_, _*_, _<_, _≤_};
-ghost use Rattle.plain.specs.Numbers.{kindOf, threadOf, objectOf, numberOf};
-ghost use Rattle.plain.specs.Chains.{onVariable, onLock, onThread, sameVariableOneWrite, sameLock, namesThreadOf, isThreadOf, dependent, dependentAt, entry, isAt, holdsTo, links, reachesTo, columnTo, columnsTo};
+ghost use Rattle.plain.specs.Numbers.{kindIn, threadIn, objectIn, numberOf};
+ghost use Rattle.plain.specs.Chains.{ofKinds, sameVariableOneWrite, sameLock, namesThreadOf, isThreadOf, dependent, dependentAt, entry, isAt, holdsTo, links, reachesTo, columnTo, columnsTo};
 
 pub const MOST: usize = 8;
 
@@ -44,19 +42,19 @@ pub fn number(kind: u32, thread: u8, object: u16) -> u32
 }
 
 pub fn kind(a: u32) -> u32
-    ensures { λ r. ⌜ r ≡ kindOf a ⌝ }
+    ensures { λ r. ⌜ r ≡ kindIn a ⌝ }
 {
     a / 16777216
 }
 
 pub fn thread(a: u32) -> u32
-    ensures { λ r. ⌜ r ≡ threadOf a ⌝ }
+    ensures { λ r. ⌜ r ≡ threadIn a ⌝ }
 {
     a / 65536 % 256
 }
 
 pub fn object(a: u32) -> u32
-    ensures { λ r. ⌜ r ≡ objectOf a ⌝ }
+    ensures { λ r. ⌜ r ≡ objectIn a ⌝ }
 {
     a % 65536
 }
@@ -64,20 +62,9 @@ pub fn object(a: u32) -> u32
 fn number_of(e: Event) -> u32
     ensures { λ r. ⌜ r ≡ numberOf e ⌝ }
 {
-    let t = e.thread;
-    let op = e.operation;
-    match op {
-        Operation::Read { variable } => number(READ, t, variable as u16),
-        Operation::Write {
-            variable,
-            height: _,
-        } => number(WRITE, t, variable as u16),
-        Operation::Acquire { lock } => number(ACQUIRE, t, lock as u16),
-        Operation::Release { lock } => number(RELEASE, t, lock as u16),
-        Operation::Fork { child } => number(FORK, t, child as u16),
-        Operation::Join { child } => number(JOIN, t, child as u16),
-        Operation::Mark { mark } => number(MARK, t, mark),
-    }
+    let s = event::slot_of(e);
+    let op = s.operation;
+    number(event::byte_of(op) as u32, s.thread, event::object_of(op))
 }
 
 // The events of a log up to its end, to the first command that is refused, or to the eighth.
@@ -129,105 +116,51 @@ fn found_at(events: [u32; MOST], count: usize, wanted: u32, n: usize, found: boo
     found
 }
 
-fn on_variable(a: u32) -> bool
-    ensures { λ r. ⌜ r ≡ onVariable a ⌝ }
+// Whether the event is of one of two kinds: reads and writes touch a variable, acquires and releases a lock, forks and joins a thread.
+fn of_kinds(a: u32, x: u32, y: u32) -> bool
+    ensures { λ r. ⌜ r ≡ ofKinds a x y ⌝ }
 {
     let k = kind(a);
-    if k == READ {
-        return true;
-    }
-    k == WRITE
-}
-
-fn on_lock(a: u32) -> bool
-    ensures { λ r. ⌜ r ≡ onLock a ⌝ }
-{
-    let k = kind(a);
-    if k == ACQUIRE {
-        return true;
-    }
-    k == RELEASE
-}
-
-fn on_thread(a: u32) -> bool
-    ensures { λ r. ⌜ r ≡ onThread a ⌝ }
-{
-    let k = kind(a);
-    if k == FORK {
-        return true;
-    }
-    k == JOIN
+    (k == x) | (k == y)
 }
 
 // "they touch the same variable and at least one is a write"
 fn same_variable_one_write(a: u32, b: u32) -> bool
     ensures { λ r. ⌜ r ≡ sameVariableOneWrite a b ⌝ }
 {
-    if object(a) != object(b) {
-        return false;
-    }
-    if kind(a) == WRITE {
-        return on_variable(b);
-    }
-    if kind(b) == WRITE {
-        return on_variable(a);
-    }
-    false
+    let touch = of_kinds(a, READ, WRITE) & of_kinds(b, READ, WRITE);
+    let write = (kind(a) == WRITE) | (kind(b) == WRITE);
+    (object(a) == object(b)) & touch & write
 }
 
 // "they touch the same lock"
 fn same_lock(a: u32, b: u32) -> bool
     ensures { λ r. ⌜ r ≡ sameLock a b ⌝ }
 {
-    if object(a) != object(b) {
-        return false;
-    }
-    if on_lock(a) {
-        return on_lock(b);
-    }
-    false
+    (object(a) == object(b)) & of_kinds(a, ACQUIRE, RELEASE) & of_kinds(b, ACQUIRE, RELEASE)
 }
 
 // a "forks or joins a thread which" b "acts as, forks or joins"
 fn names_thread_of(a: u32, b: u32) -> bool
     ensures { λ r. ⌜ r ≡ namesThreadOf a b ⌝ }
 {
-    if on_thread(a) {
-        return is_thread_of(object(a), b);
-    }
-    false
+    of_kinds(a, FORK, JOIN) & is_thread_of(object(a), b)
 }
 
 // Whether b acts as the thread, forks or joins it.
 fn is_thread_of(named: u32, b: u32) -> bool
     ensures { λ r. ⌜ r ≡ isThreadOf named b ⌝ }
 {
-    if named == thread(b) {
-        return true;
-    }
-    if named == object(b) {
-        return on_thread(b);
-    }
-    false
+    (named == thread(b)) | ((named == object(b)) & of_kinds(b, FORK, JOIN))
 }
 
 // The four points of document 01's list.
 pub fn dependent(a: u32, b: u32) -> bool
     ensures { λ r. ⌜ r ≡ dependent a b ⌝ }
 {
-    if thread(a) == thread(b) {
-        return true;
-    }
-    if same_variable_one_write(a, b) {
-        return true;
-    }
-    if same_lock(a, b) {
-        return true;
-    }
-    if names_thread_of(a, b) {
-        return true;
-    }
-    names_thread_of(b, a)
+    let touch = same_variable_one_write(a, b) | same_lock(a, b);
+    let name = names_thread_of(a, b) | names_thread_of(b, a);
+    (thread(a) == thread(b)) | touch | name
 }
 
 // Whether event i comes before event j or is it, at 8 * j + i; both counted from 0.

@@ -3,7 +3,6 @@ use crate::truth::Truth;
 use command::EventRead;
 use log::LogRead;
 use log::PatternAnswer;
-use plain::drawn;
 use run::Judged;
 use run::Outcome;
 use session::Answer;
@@ -114,8 +113,13 @@ fn a_match(t: Truth, n: usize, count: usize, numbers: [u16; 5]) -> bool {
 
 // Whether the numbers are 0 from a place on.
 fn zeros(numbers: [u16; 5], from: usize) -> bool {
+    same_from(numbers, [0; 5], from)
+}
+
+// Whether two lists are the same from a place on.
+pub(crate) fn same_from(a: [u16; 5], b: [u16; 5], from: usize) -> bool {
     for i in 0..5 {
-        if from <= i && numbers[i] != 0 {
+        if from <= i && a[i] != b[i] {
             return false;
         }
     }

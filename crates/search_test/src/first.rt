@@ -24,7 +24,7 @@ pub(crate) fn agrees(judged: Judged, t: Truth, counts: &mut [u64; COUNTS]) -> bo
 // How many runs were compared, how many of these had more than one list to name, and how many named another than the first.
 fn named_first(t: Truth, count: usize, numbers: [u16; 5], counts: &mut [u64; COUNTS]) -> bool {
     let first = first_from(t, count, 0);
-    let right = first < LISTS && same(numbers, list_of(first, count, size_of(t)));
+    let right = first < LISTS && compare::same_from(numbers, list_of(first, count, size_of(t)), 0);
     tally::add(counts, FIRST, 1);
     tally::add_if(counts, FIRST + 1, another(t, count, first));
     tally::add_if(counts, FIRST + 2, !right);
@@ -79,13 +79,4 @@ fn list_of(number: u32, count: usize, size: usize) -> [u16; 5] {
         rest = rest / base;
     }
     if rest == 0 { list } else { [0; 5] }
-}
-
-fn same(a: [u16; 5], b: [u16; 5]) -> bool {
-    for i in 0..5 {
-        if a[i] != b[i] {
-            return false;
-        }
-    }
-    true
 }

@@ -8,9 +8,8 @@ mod patterns;
 mod tally;
 mod truth;
 
+use drawn::Draft;
 use log::LogRead;
-use plain::drawn;
-use plain::drawn::Draft;
 use run::Judged;
 use tally::COUNTS;
 use truth::Truth;

@@ -30,7 +30,7 @@ pub(crate) fn search(queue: &mut [u32], seen: &mut [bool], q: Question) -> Searc
 }
 
 fn explore(queue: &mut [u32], seen: &mut [bool], q: Question) -> Searched {
-    let mut found = put(queue, seen, number_of([0, 1, 2, 3, 4, 5, 6]), 0);
+    let mut found = enqueue(queue, seen, number_of([0, 1, 2, 3, 4, 5, 6]), 0);
     for head in 0..ORDERS {
         if head >= found {
             return result_of(false, head, found);
@@ -81,7 +81,7 @@ fn neighbour(
     tail: usize,
 ) -> usize {
     if independent(order, q, i) {
-        return put(queue, seen, number_of(swapped(order, i)), tail);
+        return enqueue(queue, seen, number_of(swapped(order, i)), tail);
     }
     tail
 }
@@ -162,7 +162,7 @@ fn at(queue: &[u32], i: usize) -> u32 {
 }
 
 // Puts an order at the end of the queue, unless it was seen; the new end.
-fn put(queue: &mut [u32], seen: &mut [bool], order: u32, tail: usize) -> usize {
+fn enqueue(queue: &mut [u32], seen: &mut [bool], order: u32, tail: usize) -> usize {
     let mark = order as usize % MARKS;
     if mark >= seen.len() {
         return tail;

@@ -2,7 +2,6 @@
 use event::Slot;
 use event::SlotOperation;
 use plain::Leading;
-use plain::drawn;
 
 // The slots in numbers, `size` of them, and the last number drawn.
 pub struct Sketch {

@@ -4,7 +4,6 @@ use crate::truth;
 use crate::truth::Truth;
 use log::LogRead;
 use plain::Leading;
-use plain::drawn;
 
 pub const COUNTS: usize = 35;
 
@@ -111,7 +110,7 @@ fn print_by(words: &[u8], counts: &[u64; COUNTS]) {
 
 // The line from a place on, and its count; the place of the next line.
 fn print_line(words: &[u8], at: usize, n: u64) -> usize {
-    let end = end_of_line(words, at);
+    let end = console::find(words, at, b'\n');
     if words.len() < end {
         return at;
     }
@@ -120,13 +119,4 @@ fn print_line(words: &[u8], at: usize, n: u64) -> usize {
     }
     console::count(&words[at..end], n);
     end + 1
-}
-
-fn end_of_line(words: &[u8], at: usize) -> usize {
-    for i in at..words.len() {
-        if words[i] == b'\n' {
-            return i;
-        }
-    }
-    words.len()
 }

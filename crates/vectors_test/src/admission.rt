@@ -1,5 +1,4 @@
 // Events handed to the rules one by one: the refusal, and the state unchanged by it.
-use crate::buffers;
 use event::Event;
 
 // The state of no events.
@@ -21,7 +20,7 @@ fn answer(k: u8, before: &[u8; rules::STATE], after: &[u8; rules::STATE]) {
     }
     console::text(b": refused ");
     console::number(k as u64);
-    if buffers::same(before, after) {
+    if console::starts_with(before, rules::STATE, after) {
         console::text(b", state unchanged\n");
         return;
     }

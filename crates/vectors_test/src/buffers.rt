@@ -1,23 +1,10 @@
-// A comparison of bytes, the place after a written command, many marks.
+// The place after a written command, many marks.
 use event::Event;
 use event::Operation;
 use writer::Written;
 
 // No place of any buffer.
 pub const NOWHERE: usize = 18446744073709551615;
-
-// Whether two slices hold the same bytes.
-pub(crate) fn same(a: &[u8], b: &[u8]) -> bool {
-    if a.len() != b.len() {
-        return false;
-    }
-    for i in 0..a.len() {
-        if a[i] != b[i] {
-            return false;
-        }
-    }
-    true
-}
 
 // The next write place; after a refusal none.
 pub(crate) fn next_place(w: Written) -> usize {

@@ -102,7 +102,7 @@ pub(crate) fn at(bytes: &[u8], place: usize, tall: bool) {
 }
 
 // Writes the event, or the slot that it fits.
-fn put(buffer: &mut [u8], at: usize, e: Event, tall: bool) -> Written {
+fn write_either(buffer: &mut [u8], at: usize, e: Event, tall: bool) -> Written {
     if tall {
         return writer::write_event(buffer, at, e);
     }
@@ -115,7 +115,7 @@ pub(crate) fn write(e: Event, tall: bool, at: usize, room: usize) {
         return;
     }
     let mut buffer = [0xEEu8; 10];
-    let w = put(&mut buffer[..room], at, e, tall);
+    let w = write_either(&mut buffer[..room], at, e, tall);
     show_written(w);
     show_buffer(&buffer);
 }
@@ -140,7 +140,7 @@ fn show_written(w: Written) {
 fn show_buffer(buffer: &[u8; 10]) {
     let fresh = [0xEEu8; 10];
     console::text(b", buffer");
-    if buffers::same(buffer, &fresh) {
+    if console::starts_with(buffer, 10, &fresh) {
         console::text(b" unchanged");
         return;
     }
@@ -150,7 +150,7 @@ fn show_buffer(buffer: &[u8; 10]) {
 // Writes a command behind one byte, shows the buffer, and reads the command back there.
 pub(crate) fn back(e: Event, tall: bool) {
     let mut buffer = [0xEEu8; 9];
-    let to = buffers::next_place(put(&mut buffer, 1, e, tall));
+    let to = buffers::next_place(write_either(&mut buffer, 1, e, tall));
     console::bytes(&buffer);
     console::text(b": ");
     let next = show_at(&buffer, 1, tall);

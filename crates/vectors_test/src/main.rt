@@ -29,7 +29,7 @@ fn all(lines: &[u8], space: &mut [u8], state: &mut [u8; rules::STATE]) {
     let mut head: usize = 0;
     let mut at: usize = 0;
     while at < lines.len() {
-        let end = spelled::find(lines, at, b'\n');
+        let end = console::find(lines, at, b'\n');
         head = line(&lines[at..end], space, head, state);
         at = end + 1;
     }
@@ -58,8 +58,8 @@ fn line(line: &[u8], space: &mut [u8], head: usize, state: &mut [u8; rules::STAT
 
 // head: BYTES | COUNT. The vectors after it begin with these bytes, and then so many marks.
 fn new_head(line: &[u8], space: &mut [u8]) -> usize {
-    let colon = spelled::find(line, 0, b':');
-    let bar = spelled::find(line, colon, b'|');
+    let colon = console::find(line, 0, b':');
+    let bar = console::find(line, colon, b'|');
     let n = spelled::put_bytes(line, colon, space, 0);
     buffers::put_marks(space, n, spelled::decimal(line, bar))
 }
@@ -67,8 +67,8 @@ fn new_head(line: &[u8], space: &mut [u8]) -> usize {
 // admit TITLE: EVENT | TAKEN. Hands an event to the rules, the number of those taken before it given.
 fn admit(line: &[u8], state: &mut [u8; rules::STATE]) {
     let mut bytes = [0u8; 16];
-    let colon = spelled::find(line, 0, b':');
-    let bar = spelled::find(line, colon, b'|');
+    let colon = console::find(line, 0, b':');
+    let bar = console::find(line, colon, b'|');
     let from = spelled::title_from(line, colon);
     let n = spelled::put_bytes(line, colon, &mut bytes, 0);
     let e = commands::of(&bytes[..n], true);
@@ -77,16 +77,16 @@ fn admit(line: &[u8], state: &mut [u8; rules::STATE]) {
 }
 
 fn vector(line: &[u8], space: &mut [u8], head: usize) {
-    let colon = spelled::find(line, 0, b':');
-    let bar = spelled::find(line, colon, b'|');
-    let last = spelled::find(line, bar + 1, b'|');
+    let colon = console::find(line, 0, b':');
+    let bar = console::find(line, colon, b'|');
+    let last = console::find(line, bar + 1, b'|');
     let mut second = [0u8; 64];
     let m = spelled::put_bytes(line, bar, &mut second, 0);
     let n = spelled::put_bytes(line, colon, space, head);
     let from = spelled::title_from(line, colon);
     let asked = Asked {
         word: spelled::first(line),
-        tall: from <= spelled::find(line, 0, b'-'),
+        tall: from <= console::find(line, 0, b'-'),
         first: spelled::decimal(line, bar),
         second: spelled::decimal(line, last),
     };

@@ -11,23 +11,11 @@ pub(crate) fn first(s: &[u8]) -> u8 {
     s[0]
 }
 
-// The first place from `from` on that holds `b`, or the length.
-pub(crate) fn find(s: &[u8], from: usize, b: u8) -> usize
-    ensures { λ r. ⌜ (r ≤ length (now (s .entry))) × (from ≤ length (now (s .entry)) → from ≤ r) ⌝ }
-{
-    for i in from..s.len() {
-        if s[i] == b {
-            return i;
-        }
-    }
-    s.len()
-}
-
 // Where the title starts: after the word and a space, or at the colon where there is none.
 pub(crate) fn title_from(line: &[u8], colon: usize) -> usize
     ensures { λ r. ⌜ r ≤ colon ⌝ }
 {
-    let space = find(line, 0, b' ');
+    let space = console::find(line, 0, b' ');
     if space < colon {
         return space + 1;
     }

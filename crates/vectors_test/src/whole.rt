@@ -4,6 +4,7 @@ use crate::patterns;
 use command::EventRead;
 use command::SlotRead;
 use log::LogRead;
+use writer::Written;
 
 // A log, or a pattern.
 pub(crate) fn read(tall: bool, bytes: &[u8]) {
@@ -44,48 +45,72 @@ fn show_first(space: &[u8], n: usize) {
     }
 }
 
+// Where the next command is read, where it is written, and whether there may be one.
+struct Copying {
+    from: usize,
+    to: usize,
+    more: bool,
+}
+
+// Reads each command at its place and writes it, then the closing 00; answers how many bytes that made.
 fn copy(tall: bool, bytes: &[u8], space: &mut [u8]) -> usize {
+    let mut c = Copying {
+        from: 0,
+        to: 0,
+        more: true,
+    };
+    for turn in 0..bytes.len() {
+        c = copy_one(tall, bytes, space, c);
+    }
+    c.to
+}
+
+fn copy_one(tall: bool, bytes: &[u8], space: &mut [u8], c: Copying) -> Copying {
+    if !c.more {
+        return c;
+    }
     if tall {
-        return copy_log(bytes, space);
+        return copy_event(bytes, space, c);
     }
-    copy_pattern(bytes, space)
+    copy_slot(bytes, space, c)
 }
 
-// Reads each event at its place and writes it, then the closing 00; answers how many bytes that made.
-fn copy_log(log: &[u8], space: &mut [u8]) -> usize {
-    let mut at: usize = 0;
-    let mut to: usize = 0;
-    for turn in 0..log.len() {
-        let read = command::read_event(log, at);
-        let EventRead::Event { event, next } = read else {
-            return buffers::next_place(writer::write_end(space, to));
-        };
-        at = next;
-        to = buffers::next_place(writer::write_event(space, to, event));
+fn copy_event(log: &[u8], space: &mut [u8], c: Copying) -> Copying {
+    match command::read_event(log, c.from) {
+        EventRead::Event { event, next } => {
+            goes_on(next, writer::write_event(space, c.to, event))
+        }
+        _ => ends(space, c),
     }
-    to
 }
 
-fn copy_pattern(pattern: &[u8], space: &mut [u8]) -> usize {
-    let mut at: usize = 0;
-    let mut to: usize = 0;
-    for turn in 0..pattern.len() {
-        let read = command::read_slot(pattern, at);
-        let SlotRead::Slot { slot, next } = read else {
-            return buffers::next_place(writer::write_end(space, to));
-        };
-        at = next;
-        to = buffers::next_place(writer::write_slot(space, to, slot));
+fn copy_slot(pattern: &[u8], space: &mut [u8], c: Copying) -> Copying {
+    match command::read_slot(pattern, c.from) {
+        SlotRead::Slot { slot, next } => goes_on(next, writer::write_slot(space, c.to, slot)),
+        _ => ends(space, c),
     }
-    to
+}
+
+fn goes_on(next: usize, w: Written) -> Copying {
+    Copying {
+        from: next,
+        to: buffers::next_place(w),
+        more: true,
+    }
+}
+
+fn ends(space: &mut [u8], c: Copying) -> Copying {
+    Copying {
+        from: c.from,
+        to: buffers::next_place(writer::write_end(space, c.to)),
+        more: false,
+    }
 }
 
 fn compare(space: &[u8], n: usize, bytes: &[u8]) {
-    if n <= space.len() {
-        if buffers::same(&space[..n], bytes) {
-            console::text(b"same bytes");
-            return;
-        }
+    if console::starts_with(space, n, bytes) {
+        console::text(b"same bytes");
+        return;
     }
     console::text(b"OTHER BYTES");
 }

@@ -5,8 +5,8 @@ use borrow.Author.Needs.{needs}
 use Rattle.vectors_test.proofs.commands.write.Statement.{statement}
 use Rattle.vectors_test.proofs.commands.write.Tie as tie
 
-slice-aggregate-put : tie.Need-slice-aggregate-put
-slice-aggregate-put c = simp (length-take) (omega arith)
+slice-aggregate-write-either : tie.Need-slice-aggregate-write-either
+slice-aggregate-write-either c = simp (length-take) (omega arith)
 
 pub write-spec : {M : Type 1} → statement M
 write-spec =
@@ -14,7 +14,7 @@ write-spec =
     (tie.spec
     (λ c. search needs)
     (λ c. search needs)
-    slice-aggregate-put
+    slice-aggregate-write-either
     (λ c κs. search needs)
     (λ c κs. search needs)
     (λ c κs. search needs)

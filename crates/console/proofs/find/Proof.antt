@@ -1,10 +1,10 @@
--- `vectors_test::spelled::find` is safe and ends. The loop starts at `from`; what falls is the number of bytes left.
+-- `console::find` is safe and ends. The loop starts at `from`; what falls is the number of bytes left.
 use Prim.Native.Nat.{_-_, _≤_}
 use mathlib.Core.Path.{_≡_}
 use lib.ListN.{length}
 use borrow.Author.Needs.{needs}
-use Rattle.vectors_test.proofs.spelled.find.Statement.{statement}
-use Rattle.vectors_test.proofs.spelled.find.Tie as tie
+use Rattle.console.proofs.find.Statement.{statement}
+use Rattle.console.proofs.find.Tie as tie
 
 abbrev Inv-loop : tie.InvT-loop
 Inv-loop s from b i₀ i-end i = (i-end ≡ length s) × (from ≤ i)

@@ -1,10 +1,10 @@
--- `plain::drawn::events` is safe and ends. The loop keeps the length of the buffer; what falls is the number of events left.
+-- `drawn::events` is safe and ends. The loop keeps the length of the buffer; what falls is the number of events left.
 use Prim.Native.Nat.{_-_, _≤_}
 use mathlib.Core.Path.{_≡_}
 use lib.ListN.{length}
 use borrow.Author.Needs.{needs}
-use Rattle.plain.proofs.drawn.events.Statement.{statement}
-use Rattle.plain.proofs.drawn.events.Tie as tie
+use Rattle.drawn.proofs.events.Statement.{statement}
+use Rattle.drawn.proofs.events.Tie as tie
 
 abbrev Inv-loop : tie.InvT-loop
 Inv-loop buffer₀ drawn count manner d₀ n₀ buffer d n = (n ≤ count) × (length buffer ≡ length buffer₀)

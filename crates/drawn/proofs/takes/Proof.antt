@@ -1,9 +1,9 @@
--- `plain::drawn::takes` is safe and ends. The part that is read is as long as its size says.
+-- `drawn::takes` is safe and ends. The part that is read is as long as its size says.
 use native.Mathlib.Omega.{arith}
 use lib.ListN.{length-take}
 use borrow.Author.Needs.{needs}
-use Rattle.plain.proofs.drawn.takes.Statement.{statement}
-use Rattle.plain.proofs.drawn.takes.Tie as tie
+use Rattle.drawn.proofs.takes.Statement.{statement}
+use Rattle.drawn.proofs.takes.Tie as tie
 
 slice-aggregate-read-log : tie.Need-slice-aggregate-read-log
 slice-aggregate-read-log c = simp (length-take) (omega arith)

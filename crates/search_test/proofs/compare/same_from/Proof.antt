@@ -1,17 +1,17 @@
--- `search_test::first::same` is safe and ends. What falls is the number of slots left.
+-- `search_test::compare::same_from` is safe and ends. What falls is the number of slots left.
 use Prim.Native.Nat.{_-_, _≤_}
 use borrow.Author.Needs.{needs}
-use Rattle.search_test.proofs.first.same.Statement.{statement}
-use Rattle.search_test.proofs.first.same.Tie as tie
+use Rattle.search_test.proofs.compare.same_from.Tie as tie
+use Rattle.search_test.proofs.compare.same_from.Statement.{statement}
 
 abbrev Inv-loop : tie.InvT-loop
-Inv-loop a b i₀ i = i ≤ 5
+Inv-loop from a b i₀ i = i ≤ 5
 
 abbrev μ-loop : tie.MeasureT-loop
-μ-loop a b i₀ i = 5 - i
+μ-loop from a b i₀ i = 5 - i
 
-pub same-spec : {M : Type 1} → statement M
-same-spec =
+pub same-from-spec : {M : Type 1} → statement M
+same-from-spec =
     tie.close
     (tie.spec
     Inv-loop

@@ -7,7 +7,7 @@ use writer::Written;
 ghost use mathlib.Core.Path.{_≡_};
 ghost use Prim.Native.Nat.{_+_, _*_, _%_, _≤_};
 ghost use lib.ListN.{length};
-ghost use Rattle.plain.specs.Drawing.{isAccepted, placeAfter};
+ghost use Rattle.drawn.specs.Drawing.{isAccepted, placeAfter};
 
 // A log under way: the place after it, and the last number drawn.
 pub struct Draft {
@@ -54,7 +54,7 @@ pub fn make_mixed(buffer: &mut [u8], drawn: u32, mix: u8) -> Draft
     let manner = Manner {
         tries: 8,
         high: shape / 1048576 % 2 == 1,
-        threads: threads_of(mix, shape / 524288 % 2 == 1),
+        threads: thread_count(mix, shape / 524288 % 2 == 1),
         mix,
     };
     let d = events(buffer, shape, 4 + shape / 16777216 % 4, manner);
@@ -62,7 +62,7 @@ pub fn make_mixed(buffer: &mut [u8], drawn: u32, mix: u8) -> Draft
 }
 
 // Few threads for locks, so that holders come to release, and where events are to repeat.
-fn threads_of(mix: u8, more: bool) -> u8 {
+fn thread_count(mix: u8, more: bool) -> u8 {
     if mix == 2 || mix == 4 {
         return if more { 4 } else { 2 };
     }
@@ -102,7 +102,10 @@ fn one_event(buffer: &mut [u8], d: Draft, manner: Manner) -> Draft {
     let mut drawn = d.drawn;
     for n in 0..tries {
         drawn = draw(drawn);
-        end = place_after(writer::write_event(buffer, at, event_of(drawn, manner)), at);
+        end = place_after(
+            writer::write_event(buffer, at, drawn_event(drawn, manner)),
+            at,
+        );
         if takes(buffer, end) {
             return Draft { at: end, drawn };
         }
@@ -138,8 +141,8 @@ fn close(buffer: &mut [u8], at: usize, way: u32) -> usize {
     if 60 < at {
         return at;
     }
-    put(buffer, at, if way == 1 { 8 } else { 0 });
-    put(buffer, at + 1, if way == 3 { 8 } else { 0 });
+    set_byte(buffer, at, if way == 1 { 8 } else { 0 });
+    set_byte(buffer, at + 1, if way == 3 { 8 } else { 0 });
     match way {
         0 => at,
         2..=3 => at + 2,
@@ -147,7 +150,7 @@ fn close(buffer: &mut [u8], at: usize, way: u32) -> usize {
     }
 }
 
-fn put(buffer: &mut [u8], at: usize, b: u8) {
+fn set_byte(buffer: &mut [u8], at: usize, b: u8) {
     if at < buffer.len() {
         buffer[at] = b;
     }
@@ -162,17 +165,17 @@ fn near(n: u8, last: u8, high: bool) -> u8 {
 }
 
 // An event over two variables, two locks, four children and four marks.
-fn event_of(drawn: u32, manner: Manner) -> Event {
+fn drawn_event(drawn: u32, manner: Manner) -> Event {
     let high = manner.high;
-    let object = object_of(drawn, manner.mix);
-    let thread = near(thread_of(drawn, manner.threads), 7, high);
+    let object = drawn_object(drawn, manner.mix);
+    let thread = near(drawn_thread(drawn, manner.threads), 7, high);
     let kind = drawn / 16777216 % 16;
-    let operation = operation_of(in_mix(kind, manner.mix), object, high);
+    let operation = drawn_operation(in_mix(kind, manner.mix), object, high);
     Event { thread, operation }
 }
 
 // One of four objects; in mix 4 the first.
-fn object_of(drawn: u32, mix: u8) -> u8 {
+fn drawn_object(drawn: u32, mix: u8) -> u8 {
     if mix == 4 {
         return 0;
     }
@@ -180,7 +183,7 @@ fn object_of(drawn: u32, mix: u8) -> u8 {
 }
 
 // One of two, four or eight threads.
-fn thread_of(drawn: u32, threads: u8) -> u8 {
+fn drawn_thread(drawn: u32, threads: u8) -> u8 {
     match threads {
         2 => (drawn / 4194304 % 2) as u8,
         4 => (drawn / 4194304 % 4) as u8,
@@ -241,7 +244,7 @@ fn repeats(kind: u32) -> u32 {
 }
 
 // Writes at two heights, as these play no part in order or pattern.
-fn operation_of(kind: u32, object: u8, high: bool) -> Operation {
+fn drawn_operation(kind: u32, object: u8, high: bool) -> Operation {
     let variable = near(object % 2, 31, high);
     let lock = near(object / 3, 15, high);
     let child = near(object, 7, high);

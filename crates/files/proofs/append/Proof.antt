@@ -2,8 +2,8 @@ use mathlib.Core.Path.{_≡_}
 use lib.ListN.{length}
 use Prim.Native.Nat.{_-_, _≤_}
 use borrow.Author.Needs.{needs}
-use Rattle.files.proofs.put.Statement.{statement}
-use Rattle.files.proofs.put.Tie as tie
+use Rattle.files.proofs.append.Statement.{statement}
+use Rattle.files.proofs.append.Tie as tie
 
 abbrev Inv-loop : tie.InvT-loop
 Inv-loop path₀ from bytes at₀ i₀ i-end path at i = (i ≤ i-end) × (length path ≡ length path₀)
@@ -11,8 +11,8 @@ Inv-loop path₀ from bytes at₀ i₀ i-end path at i = (i ≤ i-end) × (lengt
 abbrev μ-loop : tie.MeasureT-loop
 μ-loop path₀ from bytes at₀ i₀ i-end path at i = i-end - i
 
-pub put-spec : {M : Type 1} → statement M
-put-spec =
+pub append-spec : {M : Type 1} → statement M
+append-spec =
     tie.close
     (tie.spec
     Inv-loop

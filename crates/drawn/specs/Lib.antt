@@ -1,0 +1,2 @@
+-- What the helpers of drawing small logs answer.
+pub mod Drawing
