@@ -11,10 +11,10 @@ use Rattle.listing_text.proofs.listing.Statement.{statement}
 use Rattle.listing_text.proofs.listing.Tie as tie
 
 returns : tie.Need-returns
-returns c = (tooLongLine, long-pattern (c .before .before .if1 .taken), omega arith, cc (c .before .before .before .empty .ensures, c .text .ensures))
+returns c = (tooLongLine, long-pattern (c .before .before .if1 .taken), omega arith, rw (c .text .ensures, c .before .before .before .empty .ensures))
 
 returns-2 : tie.Need-returns-2
-returns-2 c = (tooLongLine, long-log (c .before .before .if2 .taken), omega arith, cc (c .before .before .before .before .empty .ensures, c .text2 .ensures))
+returns-2 c = (tooLongLine, long-log (c .before .before .if2 .taken), omega arith, rw (c .text2 .ensures, c .before .before .before .before .empty .ensures))
 
 returns-3 : tie.Need-returns-3
 returns-3 c =
@@ -23,7 +23,7 @@ returns-3 c =
       textOf (a .log .now) (r .outcome) (r .numbers),
       judged (c .before .before .before .if1 .left) (c .before .before .if2 .left) (listed (a .pattern .now) (a .log .now) r (c .before .run .ensures)),
       fits-a-page (a .log .now) (r .outcome) (r .numbers) (let n : length (r .numbers) ≡ 5 = search needs in omega arith),
-      cc (c .before .before .before .before .empty .ensures, c .verdict .ensures),
+      rw (c .verdict .ensures, c .before .before .before .before .empty .ensures),
     )
 
 pub listing-spec : {M : Type 1} → statement M

@@ -6,7 +6,7 @@ use Rattle.plain.proofs.is_thread_of.Tie as tie
 
 returns : tie.Need-returns
 unfolding isThreadOf
-returns c = cc
+returns c = rw (c .of-kinds .ensures, c .before .object .ensures, c .before .before .thread .ensures)
 
 pub is-thread-of-spec : {M : Type 1} → statement M
 is-thread-of-spec = tie.close (tie.spec (λ c κs. search needs) (λ c κs. search needs) (λ c κs. search needs) returns)

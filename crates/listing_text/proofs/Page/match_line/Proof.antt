@@ -4,7 +4,7 @@ use Rattle.listing_text.proofs.Page.match_line.Statement.{statement}
 use Rattle.listing_text.proofs.Page.match_line.Tie as tie
 
 returns : tie.Need-returns
-returns c = simp (← onto-append) (cc (c .before .before .word .ensures, c .text .ensures))
+returns c = simp (← onto-append) (rw (c .text .ensures, c .before .before .word .ensures))
 
 pub match-line-spec : {M : Type 1} → statement M
 match-line-spec =

@@ -4,7 +4,7 @@ use Rattle.listing_text.proofs.Page.metres.Statement.{statement}
 use Rattle.listing_text.proofs.Page.metres.Tie as tie
 
 returns : tie.Need-returns
-returns c = simp (← onto-append) (cc (c .before .before .before .before .before .before .sign .ensures, c .before .before .before .before .number .ensures, c .before .before .text .ensures, c .number2 .ensures))
+returns c = simp (← onto-append) (rw (c .number2 .ensures, c .before .before .text .ensures, c .before .before .before .before .number .ensures, c .before .before .before .before .before .before .sign .ensures))
 
 pub metres-spec : {M : Type 1} → statement M
 metres-spec =

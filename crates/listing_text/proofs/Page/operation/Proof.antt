@@ -17,7 +17,7 @@ returns-2 c =
     let seen = held-is (c .before .before .before .before .before .before .op2 .given .0 .1 .0) (c .before .before .before .before .before .known-told2 .given .1 .0 .1) in
     rw (c .before .before .before .before .before .before .op2 .given .1)
     (simp (← onto-append)
-    (c .height .ensures ∙ ap₂ (λ (p : Page) (z : ℤ). onto p (heightText z)) (cc (c .before .before .before .word2 .ensures, c .before .text .ensures)) seen))
+    (c .height .ensures ∙ ap₂ (λ (p : Page) (z : ℤ). onto p (heightText z)) (rw (c .before .text .ensures, c .before .before .before .word2 .ensures)) seen))
 
 returns-3 : tie.Need-returns-3
 returns-3 c = rw (c .before .before .before .op3 .given .1) (simp (← onto-append) (c .word3 .ensures))

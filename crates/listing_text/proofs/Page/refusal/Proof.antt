@@ -4,7 +4,7 @@ use Rattle.listing_text.proofs.Page.refusal.Statement.{statement}
 use Rattle.listing_text.proofs.Page.refusal.Tie as tie
 
 returns : tie.Need-returns
-returns c = simp (← onto-append) (cc (c .before .before .before .before .word .ensures, c .before .before .word2 .ensures, c .text .ensures))
+returns c = simp (← onto-append) (rw (c .text .ensures, c .before .before .word2 .ensures, c .before .before .before .before .word .ensures))
 
 pub refusal-spec : {M : Type 1} → statement M
 refusal-spec =

@@ -4,7 +4,7 @@ use Rattle.listing_text.proofs.Page.slot_line.Statement.{statement}
 use Rattle.listing_text.proofs.Page.slot_line.Tie as tie
 
 returns : tie.Need-returns
-returns c = simp (← onto-append) (cc (c .before .before .before .before .before .before .before .before .before .before .number .ensures, c .before .before .before .before .before .before .before .before .word .ensures, c .before .before .before .before .before .word2 .ensures, c .before .before .before .text .ensures, c .before .before .operation .ensures, c .text2 .ensures))
+returns c = simp (← onto-append) (rw (c .text2 .ensures, c .before .before .operation .ensures, c .before .before .before .text .ensures, c .before .before .before .before .before .word2 .ensures, c .before .before .before .before .before .before .before .before .word .ensures, c .before .before .before .before .before .before .before .before .before .before .number .ensures))
 
 pub slot-line-spec : {M : Type 1} → statement M
 slot-line-spec =

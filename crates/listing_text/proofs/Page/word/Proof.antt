@@ -3,7 +3,7 @@ use Rattle.listing_text.proofs.Page.word.Statement.{statement}
 use Rattle.listing_text.proofs.Page.word.Tie as tie
 
 returns : tie.Need-returns
-returns c = cc (c .before .text .ensures, c .number .ensures)
+returns c = rw (c .number .ensures, c .before .text .ensures)
 
 pub word-spec : {M : Type 1} → statement M
 word-spec = tie.close (tie.spec (λ c κs. search needs) (λ c κs. search needs) returns)
