@@ -1,12 +1,11 @@
 -- What the code leaves in a session's parts is what the definitions say, and the parts go on being those of a session.
-use Prim.Native.Nat.{ℕ, _+_, _*_, _<_}
+use Prim.Native.Nat.{ℕ, _+_, _*_}
 use native.Mathlib.Omega.{arith}
 use mathlib.Core.Path.{_≡_, refl, sym, ap, _∙_}
-use mathlib.Core.Bool.{Bool, true, false, cond}
-use mathlib.Core.List.{List, [], _∷_, reverse}
+use mathlib.Core.Bool.{Bool, false}
+use mathlib.Core.List.{List, [], reverse}
 use lib.Dec.{eqb}
 use lib.IntN.{ℤ}
-use lib.ListN.{length-reverse}
 use borrow.Author.Tests.{eqb-true, ne-eqb}
 use Rattle.event.specs.declared.Event.{Event}
 use Rattle.event.specs.declared.Slot.{Slot}
@@ -23,7 +22,7 @@ use Rattle.session.specs.declared.Opened.{Opened}
 use Rattle.session.specs.declared.Found.{Found}
 use Rattle.session.specs.declared.Found.the-variants.{Match, None}
 use Rattle.run.specs.declared.Outcome as run
-use Rattle.session.specs.Answers.{refusal, answerIs, foundIs, nothing, Given}
+use Rattle.session.specs.Answers.{refusal, answerIs, foundIs, nothing}
 use Rattle.run.specs.Answers.{outcomeIs}
 use Rattle.session.specs.Model.{slotsUsed, freshOn, Kept, keptOf, sessionOn, keptAfter, answerBy, handed, foundAt}
 use Rattle.session.specs.Meaning.{takenBy, Describes, VerdictOf, OpenedOn}
@@ -36,7 +35,7 @@ use Rattle.bilguzor.specs.declared.Parts.{Parts}
 use Rattle.bilguzor.specs.Numbers.{judgementOf, asOutcome}
 use Rattle.bilguzor.specs.Parts.{partsOf, keptIn, partsWith, actingIn, fittingIn}
 use Rattle.bilguzor.specs.Sessions.{InParts, openingFrom, openedParts, openingOf, Numbers, handedOver, noOperation, eventFrom, unfitBy, numberIn, partsAfter, refusalOf, takenWith, Takes, rulingIn}
-use Rattle.bilguzor.proofs.Events.{Operates, operates, unfit-number, fit}
+use Rattle.bilguzor.proofs.Events.{operates, unfit-number, fit}
 use Rattle.bilguzor.proofs.SlotsIn.{places-within, threads-told, fits-told}
 
 -- ---- one event, handed to the parts of a session

@@ -4,12 +4,11 @@ use native.Mathlib.Omega.{arith}
 use mathlib.Core.Path.{_≡_, refl, sym, ap₂}
 use mathlib.Core.Bool.{Bool}
 use mathlib.Core.List.{List, [], _∷_, _++_}
-use lib.Dec.{eqb}
 use lib.ListN.{length, replicate}
 use Rattle.event.specs.declared.Event.{Event}
 use Rattle.event.specs.declared.Slot.{Slot}
 use Rattle.event.specs.Limits.{slots}
-use Rattle.event.specs.Slots.{slotOf, fits, fitting, threadsOf}
+use Rattle.event.specs.Slots.{slotOf, fitting, threadsOf}
 use Rattle.event.specs.Range.{rangeRefusalUnder}
 use Rattle.event.specs.Keys.{slotNumber, slotNumbers}
 use Rattle.event.proofs.InRange.{in-range}

@@ -18,7 +18,7 @@ use Rattle.command.specs.Reading.{operationOf}
 use Rattle.session.specs.Answers.{Refused, nothing}
 use Rattle.session.specs.History as session
 use Rattle.session.proofs.Demand.{same-verdict, run-over, every-run as run-demand}
-use Rattle.dependence.specs.Order.{Reaches, HasMatch}
+use Rattle.dependence.specs.Order.{HasMatch}
 use Rattle.dependence.proofs.Reached.{order-reached}
 use Rattle.log.specs.Whole.{logBytes, readPattern}
 use Rattle.log.proofs.LogRoundTrip.{log-read}

@@ -18,7 +18,7 @@ use Rattle.table.specs.Table.{numbersIn}
 use Rattle.session.specs.declared.Session.{Session}
 use Rattle.session.specs.Answers.{Ruling, foundIs}
 use Rattle.session.specs.Model.{slotsUsed, freshOn, keptAfter, foundAt}
-use Rattle.session.specs.Meaning.{Describes, takenBy, VerdictOf}
+use Rattle.session.specs.Meaning.{Describes, takenBy}
 use Rattle.bilguzor.specs.declared.Answer.{Answer}
 use Rattle.bilguzor.specs.declared.Opening.{Opening}
 use Rattle.bilguzor.specs.declared.Parts.{Parts}

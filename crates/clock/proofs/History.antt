@@ -15,6 +15,7 @@ use Rattle.event.specs.Limits.{threads, events}
 use Rattle.event.specs.Slots.{slotOf}
 use Rattle.event.specs.Range.{rangeRefusal}
 use Rattle.event.proofs.InRange.{in-range}
+use Rattle.event.proofs.Updated.{updated-length}
 use Rattle.trace.specs.Tuples.{one-more}
 use Rattle.trace.proofs.Lists.{length-snoc}
 use Rattle.trace.proofs.Tallies.{raise, join}
@@ -29,11 +30,11 @@ use Rattle.dependence.proofs.Dependent.{one-thread}
 use Rattle.dependence.proofs.ByChannels.{by-channels}
 use Rattle.clock.specs.declared.Stamp.{Stamp}
 use Rattle.clock.specs.Rows.{size, numberOf, rowOf, Known, beside}
-use Rattle.clock.specs.Clocks.{highestCount, up, told, rowsOf, stampBy, clocksAfter}
+use Rattle.clock.specs.Clocks.{raised, highestCount, up, told, rowsOf, stampBy, clocksAfter}
 use Rattle.clock.specs.Arrivals.{StampOf, ClocksOf, Arrived}
 use Rattle.clock.proofs.RowLaws.{row-fits, all-known, AllKnown}
 use Rattle.clock.proofs.ClockLaws.{stamp-in, clocks-in}
-use Rattle.clock.proofs.Entries.{raised-length, highestOf, heard-entry, told-entry}
+use Rattle.clock.proofs.Entries.{highestOf, heard-entry, told-entry}
 use Rattle.clock.proofs.Channels.{heard-of, told-of}
 use Rattle.clock.proofs.Highest.{kept, kept-le, kept-is, kept-unique}
 
@@ -88,7 +89,7 @@ module _ (log : List Event) (clocks : List ℕ) (e : Event) (h : ClocksOf log cl
   stamp-entry : (t : ℕ) → t < threads → getD (stampBy clocks e .at) t 0 ≡ given t
   stamp-entry t l =
       ap (λ (s : Stamp). getD (s .at) t 0) (stamp-in clocks e within)
-      ∙ heard-entry clocks (e .thread) (rowsOf e) t low l
+      ∙ heard-entry clocks (e .thread) (rowsOf e) t l
       ∙ ticks (eqb (e .thread) t) (highestOf clocks (e .thread) (rowsOf e) t) _ (heard-is t l) (heard-low t l)
     where
       ticks : (b : Bool) (m n : ℕ) → m ≡ n → m ≤ length log → cond b (up m) m ≡ one-more b n
@@ -115,10 +116,10 @@ module _ (log : List Event) (clocks : List ℕ) (e : Event) (h : ClocksOf log cl
       fits d u = rw (h .whole) (row-fits d u)
 
   still-held : ClocksOf longer (clocksAfter clocks e)
-  unfolding told
+  unfolding told raised
   still-held =
       record {
-        whole = rw (clocks-in clocks e within, raised-length, raised-length) (h .whole);
+        whole = rw (clocks-in clocks e within, updated-length, updated-length) (h .whole);
         entry = λ c k t l. rw (entry-after c k t l) (kept-is e longer c t);
       }
 

@@ -1,14 +1,15 @@
 -- The stamp that the clocks give an event, and what they are once it has arrived, for every list of entries and every event.
 -- Assumes nothing.
-use Prim.Native.Nat.{ℕ, zero, suc, _+_, max}
+use Prim.Native.Nat.{ℕ, _+_, max}
 use mathlib.Core.Bool.{Bool, cond, _&&_}
 use mathlib.Core.List.{List}
 use lib.Dec.{eqb, leb, ltb}
-use lib.ListN.{getD, set, replicate}
+use lib.ListN.{getD, replicate}
 use Rattle.event.specs.declared.Event.{Event}
 use Rattle.event.specs.Limits.{threads}
 use Rattle.event.specs.Slots.{slotOf}
 use Rattle.event.specs.Range.{rangeRefusal}
+use Rattle.event.specs.Updated.{updated}
 use Rattle.dependence.specs.Channels.{thread}
 use Rattle.clock.specs.declared.Rows.{Rows}
 use Rattle.clock.specs.declared.Stamp.{Stamp}
@@ -16,14 +17,9 @@ use Rattle.clock.specs.Rows.{rowOf, beside, rowsFor}
 
 -- ---- raising entries
 
--- the list with its entry i raised to y, where that is higher
-abbrev pub raiseAt : List ℕ → ℕ → ℕ → List ℕ
-raiseAt xs i y = set xs i (max (getD xs i 0) y)
-
 -- the list xs, its n entries from f on raised to those of ys from g on
 unfoldable pub raised : ℕ → List ℕ → ℕ → List ℕ → ℕ → List ℕ
-raised zero xs f ys g = xs
-raised (suc n) xs f ys g = raiseAt (raised n xs f ys g) (f + n) (getD ys (g + n) 0)
+raised n xs f ys g = updated 0 (λ i x. max x (getD ys (g + i) 0)) n xs f
 
 -- the stamp raised to the row of the clocks that starts at f
 abbrev pub heardFrom : Stamp → List ℕ → ℕ → Stamp
@@ -45,7 +41,7 @@ up x = cond (ltb x highestCount) (x + 1) x
 
 -- the stamp with one more of the thread t
 abbrev pub tickedAt : Stamp → ℕ → Stamp
-tickedAt s t = record { at = set (s .at) t (up (getD (s .at) t 0)) }
+tickedAt s t = record { at = updated 0 (λ u x. cond (eqb t u) (up x) x) threads (s .at) 0 }
 
 -- no counts
 abbrev pub noStamp : Stamp

@@ -151,14 +151,14 @@ fn listen(clocks: &[u16; CLOCKS], t: u8, rows: Rows) -> Stamp
     tick(both, t as usize)
 }
 
-// The stamp raised to the row.
-fn hear(s: Stamp, clocks: &[u16; CLOCKS], from: usize) -> Stamp
-    requires { ⌜ from + threads ≤ size ⌝ }
-    ensures { λ r. ⌜ r ≡ heardFrom s (now (clocks .entry)) from ⌝ }
+// The stamp raised to the row that starts at `from`.
+fn hear(s: Stamp, counts: &[u16], from: usize) -> Stamp
+    requires { do ⌜ from + threads ≤ (← ⟦counts.len()⟧) ⌝ }
+    ensures { λ r. ⌜ r ≡ heardFrom s (now (counts .entry)) from ⌝ }
 {
     let mut r = s;
     for i in 0..THREADS {
-        let count = larger(r.at[i], clocks[from + i]);
+        let count = larger(r.at[i], counts[from + i]);
         r.at[i] = count;
     }
     r
@@ -183,12 +183,11 @@ pub fn larger(x: u16, y: u16) -> u16
 
 // One more of thread t. It goes through every entry, so that the counts stay in one vector.
 fn tick(s: Stamp, t: usize) -> Stamp
-    requires { ⌜ t < threads ⌝ }
     ensures { λ r. ⌜ r ≡ tickedAt s t ⌝ }
 {
     let mut r = s;
     for i in 0..THREADS {
-        let count = next_count(r.at[i], i == t);
+        let count = next_count(r.at[i], t == i);
         r.at[i] = count;
     }
     r
@@ -208,12 +207,7 @@ pub fn next_count(x: u16, own: bool) -> u16
 pub fn join(a: Stamp, b: Stamp) -> Stamp
     ensures { λ r. ⌜ r ≡ higherOf a b ⌝ }
 {
-    let mut r = a;
-    for i in 0..THREADS {
-        let count = larger(r.at[i], b.at[i]);
-        r.at[i] = count;
-    }
-    r
+    hear(a, &b.at, 0)
 }
 
 // How many events of a thread a stamp counts; 0 where there is no such thread.
@@ -231,9 +225,8 @@ pub fn count_of(thread: u8, s: Stamp) -> u16
 pub fn comes_before(thread: u8, place: u16, later: Stamp) -> bool
     ensures { λ r. ⌜ r ≡ comesBefore thread place later ⌝ }
 {
-    let t = thread as usize;
-    if t >= THREADS {
+    if thread >= event::THREADS {
         return false;
     }
-    place <= later.at[t]
+    place <= count_of(thread, later)
 }

@@ -1,33 +1,26 @@
 -- A list filled entry by entry from another: what a loop over a pattern's slots leaves.
-use Prim.Native.Nat.{ℕ, zero, suc, _+_, _<_}
-use native.Mathlib.Decide.{ℕ-discrete}
+use Prim.Native.Nat.{ℕ, zero, suc, _<_}
 use native.Mathlib.Omega.{arith}
 use mathlib.Core.Path.{_≡_, refl, sym, _∙_}
 use mathlib.Core.List.{List, [], _∷_, map}
-use lib.ListN.{length, getD, set, length-set, length-map, List·getD-map}
-use lib.Seq.{getD-set-same, getD-set-other, ext-getD}
+use lib.ListN.{length, getD, length-map, List·getD-map}
+use lib.Seq.{ext-getD}
+use Rattle.event.specs.Updated.{updated}
+use Rattle.event.proofs.Updated.{updated-length, updated-first}
 
 module _ {A B : Type 0} (f : A → B) (xs : List A) (d : A) where
-  -- the entries below j are those of the other list's
-  pub record Filled (j : ℕ) (ys : List B) : Type 0 where
-    pub as-long : length ys ≡ length xs
-    pub below : (i : ℕ) → i < j → getD ys i (f d) ≡ f (getD xs i d)
+  -- the list ys, its first n entries updated by those of the other list
+  abbrev pub filledTo : ℕ → List B → List B
+  filledTo n ys = updated (f d) (λ i y. f (getD xs i d)) n ys 0
 
-  pub none-filled : (ys : List B) → length ys ≡ length xs → Filled 0 ys
-  none-filled ys l = record { as-long = l; below = λ i u. absurd (let z : ⊥ = omega arith in z) }
-
-  pub one-filled : (j : ℕ) (ys : List B) (y : B) → Filled j ys → j < length xs → y ≡ f (getD xs j d) → Filled (j + 1) (set ys j y)
-  one-filled j ys y h l q =
-      record { as-long = length-set ys j y ∙ h .as-long; below = λ i u. go i u (ℕ-discrete i j) }
+  pub all-filled : (n : ℕ) (ys zs : List B) → zs ≡ filledTo n ys → n ≡ length xs → length ys ≡ length xs → zs ≡ map f xs
+  all-filled n ys zs q e l =
+      q
+      ∙ ext-getD (f d) (filledTo n ys) (map f xs) (whole ∙ sym (length-map xs f))
+      (λ i u. let m = whole in updated-first (f d) (λ i y. f (getD xs i d)) ys n i (omega arith) (omega arith) ∙ sym (List·getD-map f xs i d))
     where
-      go : (i : ℕ) → i < j + 1 → Dec (i ≡ j) → getD (set ys j y) i (f d) ≡ f (getD xs i d)
-      go i u (yes p) = rw p (getD-set-same ys j y (f d) (let n = h .as-long in omega arith) ∙ q)
-      go i u (no n) = getD-set-other ys j i y (f d) n ∙ h .below i (omega arith)
-
-  pub all-filled : (j : ℕ) (ys : List B) → length xs ≡ j → Filled j ys → ys ≡ map f xs
-  all-filled j ys e h =
-      ext-getD (f d) ys (map f xs) (h .as-long ∙ sym (length-map xs f))
-      (λ i u. h .below i (let n = h .as-long in omega arith) ∙ sym (List·getD-map f xs i d))
+      whole : length (filledTo n ys) ≡ length xs
+      whole = updated-length (f d) (λ i y. f (getD xs i d)) ys 0 n ∙ l
 
 -- an entry of a list made from another
 pub map-at : {A B : Type 0} (f : A → B) (xs : List A) (d : A) (z : B) (j : ℕ) → j < length xs → getD (map f xs) j z ≡ f (getD xs j d)

@@ -2,5 +2,6 @@ pub mod Tests
 pub mod Tags
 pub mod InRange
 pub mod OneSlot
+pub mod Updated
 pub mod Filled
 pub mod SlotNumbers

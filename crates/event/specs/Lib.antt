@@ -3,3 +3,4 @@ pub mod Keys
 pub mod Limits
 pub mod Range
 pub mod Effects
+pub mod Updated

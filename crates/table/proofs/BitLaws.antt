@@ -49,13 +49,13 @@ number-bit b1 b b2 =
 -- with the slot and without it
 pub number-with : (b1 b2 : List Bool) → setNumber (b1 ++ (true ∷ b2)) ≡ setNumber (b1 ++ (false ∷ b2)) + 2 ^ length b1
 number-with b1 b2 =
-    rw (number-split b1 true b2, number-split b1 false b2) (apart (2 * setNumber b2) (2 ^ length b1) (setNumber b1))
+    rw (number-split b1 true b2, number-split b1 false b2) (one-power-more (2 * setNumber b2) (2 ^ length b1) (setNumber b1))
   where
     sums : (a c p v : ℕ) → c ≡ a + p → c + v ≡ a + v + p
     sums a c p v h = omega arith
 
-    apart : (x p v : ℕ) → (1 + x) * p + v ≡ (0 + x) * p + v + p
-    apart x p v = sums ((0 + x) * p) ((1 + x) * p) p v (add-mul 1 x p ∙ ends (1 * p) (x * p) ((0 + x) * p) p (one-mul p) (ap (λ (y : ℕ). y * p) (plain x)))
+    one-power-more : (x p v : ℕ) → (1 + x) * p + v ≡ (0 + x) * p + v + p
+    one-power-more x p v = sums ((0 + x) * p) ((1 + x) * p) p v (add-mul 1 x p ∙ ends (1 * p) (x * p) ((0 + x) * p) p (one-mul p) (ap (λ (y : ℕ). y * p) (plain x)))
       where
         plain : (x : ℕ) → 0 + x ≡ x
         plain x = omega arith

@@ -13,6 +13,7 @@ use lib.Seq.{getD-set-same, getD-set-other}
 use borrow.Author.Tests.{leb-true, leb-false, eqb-true, eqb-false}
 use Rattle.event.specs.Limits.{slots}
 use Rattle.event.proofs.Tests.{by-test}
+use Rattle.event.proofs.Updated.{updated-length, updated-outside, updated-inside, updated-first}
 use Rattle.clock.specs.declared.Stamp.{Stamp}
 use Rattle.table.specs.declared.Limits.{Limits}
 use Rattle.table.specs.declared.Entry.{Entry}
@@ -23,38 +24,23 @@ use Rattle.table.proofs.SetLaws.{row-fits}
 
 -- ---- a part that is replaced
 
-module _ (xs : List ℕ) (f : ℕ) (ys : List ℕ) (g : ℕ) where
-  pub pasted-length : (n : ℕ) → length (pasted n xs f ys g) ≡ length xs
-  unfolding pasted
-  pasted-length zero = refl
-  pasted-length (suc n) = length-set (pasted n xs f ys g) (f + n) _ ∙ pasted-length n
+module _ (xs : List ℕ) (f : ℕ) (ys : List ℕ) (g n : ℕ) where
+  abbrev replacing : ℕ → ℕ → ℕ
+  replacing i x = getD ys (g + i) 0
 
   -- what lies outside the part stays
-  pub pasted-outside : (n k : ℕ) → ((i : ℕ) → i < n → k ≡ f + i → ⊥) → getD (pasted n xs f ys g) k 0 ≡ getD xs k 0
-  unfolding pasted
-  pasted-outside zero k out = refl
-  pasted-outside (suc n) k out =
-      getD-set-other (pasted n xs f ys g) (f + n) k _ 0 (out n (omega arith)) ∙ pasted-outside n k (λ i l. out i (omega arith))
+  pub pasted-outside : (k : ℕ) → ((i : ℕ) → i < n → k ≡ f + i → ⊥) → getD (pasted n xs f ys g) k 0 ≡ getD xs k 0
+  pasted-outside = updated-outside 0 replacing xs f n
 
   -- what lies in it is replaced
-  pub pasted-inside : (n i : ℕ) → i < n → f + n ≤ length xs → getD (pasted n xs f ys g) (f + i) 0 ≡ getD ys (g + i) 0
-  unfolding pasted
-  pasted-inside zero i l fits = absurd (omega arith)
-  pasted-inside (suc n) i l fits = go (ℕ-discrete i n) (λ u. pasted-inside n i u (omega arith))
-    where
-      go : Dec (i ≡ n) → (i < n → getD (pasted n xs f ys g) (f + i) 0 ≡ getD ys (g + i) 0)
-          → getD (pasted (suc n) xs f ys g) (f + i) 0 ≡ getD ys (g + i) 0
-      go (yes p) ih =
-          let low : f + n < length (pasted n xs f ys g) = rw (pasted-length n) (omega arith) in
-          rw p (getD-set-same (pasted n xs f ys g) (f + n) _ 0 low)
-      go (no d) ih =
-          getD-set-other (pasted n xs f ys g) (f + n) (f + i) _ 0 (λ e. d (let z : i ≡ n = omega arith in z)) ∙ ih (omega arith)
+  pub pasted-inside : (i : ℕ) → i < n → f + n ≤ length xs → getD (pasted n xs f ys g) (f + i) 0 ≡ getD ys (g + i) 0
+  pasted-inside = updated-inside 0 replacing xs f n
 
 -- the row that is read
 pub row-entry : (table : List ℕ) (f j : ℕ) → j < width → getD (rowAt table f .at) j 0 ≡ getD table (f + j) 0
 unfolding rowAt
 row-entry table f j l =
-    rw zero-add at (pasted-inside (replicate width 0) 0 table f width j l (rw (length-replicate {A = ℕ} width 0) (omega arith)))
+    updated-first 0 (λ i x. getD table (f + i) 0) (replicate width 0) width j l (rw (length-replicate {A = ℕ} width 0) (omega arith))
 
 -- ---- room
 
@@ -80,31 +66,17 @@ room-false (suc n) ps ls h =
 
 -- ---- limits
 
-module _ (acting : List ℕ) (k : ℕ) (stamp : Stamp) where
-  limits-length : (n : ℕ) → length (limitsTo n acting k stamp) ≡ lanes
-  unfolding limitsTo
-  limits-length zero = length-replicate {A = ℕ} lanes 0
-  limits-length (suc n) = length-set (limitsTo n acting k stamp) n _ ∙ limits-length n
+module _ (acting : List ℕ) (k : ℕ) (stamp : Stamp) (n : ℕ) where
+  abbrev limiting : ℕ → ℕ → ℕ
+  limiting j x = limitAt (getD acting j 0) (ltb k j) stamp
 
   -- beyond the slots there is none
-  pub limits-beyond : (n i : ℕ) → n ≤ i → i < lanes → getD (limitsTo n acting k stamp) i 0 ≡ 0
-  unfolding limitsTo
-  limits-beyond zero i l low = getD-replicate {A = ℕ} lanes i 0 0 low
-  limits-beyond (suc n) i l low =
-      getD-set-other (limitsTo n acting k stamp) n i _ 0 (λ p. let z : ⊥ = omega arith in z) ∙ limits-beyond n i (omega arith) low
+  pub limits-beyond : (i : ℕ) → n ≤ i → i < lanes → getD (limitsTo n acting k stamp) i 0 ≡ 0
+  limits-beyond i l low =
+      updated-outside 0 limiting (replicate lanes 0) 0 n i (λ j u p. let z : ⊥ = omega arith in z) ∙ getD-replicate {A = ℕ} lanes i 0 0 low
 
-  pub limits-at : (n i : ℕ) → i < n → n ≤ lanes
-      → getD (limitsTo n acting k stamp) i 0 ≡ limitAt (getD acting i 0) (ltb k i) stamp
-  unfolding limitsTo
-  limits-at zero i l low = absurd (omega arith)
-  limits-at (suc n) i l low = go (ℕ-discrete i n) (λ u. limits-at n i u (omega arith))
-    where
-      go : Dec (i ≡ n) → (i < n → getD (limitsTo n acting k stamp) i 0 ≡ limitAt (getD acting i 0) (ltb k i) stamp)
-          → getD (limitsTo (suc n) acting k stamp) i 0 ≡ limitAt (getD acting i 0) (ltb k i) stamp
-      go (yes p) ih =
-          let u : n < length (limitsTo n acting k stamp) = rw (limits-length n) (omega arith) in
-          rw p (getD-set-same (limitsTo n acting k stamp) n _ 0 u)
-      go (no d) ih = getD-set-other (limitsTo n acting k stamp) n i _ 0 d ∙ ih (omega arith)
+  pub limits-at : (i : ℕ) → i < n → n ≤ lanes → getD (limitsTo n acting k stamp) i 0 ≡ limitAt (getD acting i 0) (ltb k i) stamp
+  limits-at i l low = updated-first 0 limiting (replicate lanes 0) n i l (rw (length-replicate {A = ℕ} lanes 0) low)
 
 -- ---- an event is offered to one set
 
@@ -144,8 +116,7 @@ module _ (table : List ℕ) (limits : Limits) (entry : Entry) (whole : length ta
   stored-length f m =
       length-set (set (pasted width table f (rowAt table (rowOf m) .at) 0) (f + slot) (entry .place)) (f + lanes + slot) _
       ∙ length-set (pasted width table f (rowAt table (rowOf m) .at) 0) (f + slot) _
-      ∙ pasted-length table f (rowAt table (rowOf m) .at) 0 width
-      ∙ whole
+      ∙ (rw updated-length whole)
 
   stored-outside : (f m i : ℕ) → ((j : ℕ) → j < width → i ≡ f + j → ⊥) → getD (stored f m) i 0 ≡ getD table i 0
   unfolding stored
@@ -160,7 +131,7 @@ module _ (table : List ℕ) (limits : Limits) (entry : Entry) (whole : length ta
     copied = pasted width table f (rowAt table (rowOf m) .at) 0
 
     copied-length : length copied ≡ size
-    copied-length = pasted-length table f (rowAt table (rowOf m) .at) 0 width ∙ whole
+    copied-length = rw updated-length whole
 
     placed-length : length (set copied (f + slot) (entry .place)) ≡ size
     placed-length = length-set copied (f + slot) _ ∙ copied-length
@@ -204,11 +175,11 @@ module _ (table : List ℕ) (limits : Limits) (entry : Entry) (whole : length ta
       (λ q. rw q)
       (λ q.
       by-test (roomIn (rowAt table (rowOf m)) limits)
-      (λ r. rw (q, r) (stored-outside (rowOf (m + 2 ^ slot)) m (rowOf n + j) (λ i u e. out (apart (m + 2 ^ slot) i u e))))
+      (λ r. rw (q, r) (stored-outside (rowOf (m + 2 ^ slot)) m (rowOf n + j) (λ i u e. out (same-row (m + 2 ^ slot) i u e))))
       (λ r. rw (q, r)))
     where
-      apart : (t i : ℕ) → i < width → n * width + j ≡ t * width + i → n ≡ t
-      apart t i u e = omega arith
+      same-row : (t i : ℕ) → i < width → n * width + j ≡ t * width + i → n ≡ t
+      same-row t i u e = omega arith
 
   -- and the row of the set with the slot
   pub offered-step : (m : ℕ) → m + 2 ^ slot < sets

@@ -10,6 +10,7 @@ use lib.ListN.{length, getD, replicate, length-replicate, getD-replicate, List·
 use lib.Seq.{getD-append-add}
 use Rattle.event.specs.declared.Slot.{Slot}
 use Rattle.event.specs.Limits.{slots}
+use Rattle.event.proofs.Updated.{updated-length}
 use Rattle.trace.specs.Tuples.{pick}
 use Rattle.trace.proofs.Lists.{both-ways}
 use Rattle.trace.proofs.Numbers.{numbered-among}
@@ -17,7 +18,7 @@ use Rattle.trace.proofs.Greatest.{best-nil, best-cons}
 use Rattle.table.specs.Sets.{lanes, width, held, size, absent}
 use Rattle.table.specs.Table.{emptyRow, freshTable}
 use Rattle.table.specs.Keeps.{Fits, setNumber, rowIn, numbersOf, Keeping, kept, missing, Keeps}
-use Rattle.table.proofs.RowLaws.{pasted-length, pasted-outside, pasted-inside}
+use Rattle.table.proofs.RowLaws.{pasted-outside, pasted-inside}
 
 pub getD-zeros : (n i : ℕ) → _≡_ {A = ℕ} (getD (replicate n 0) i 0) 0
 getD-zeros zero i = refl
@@ -90,7 +91,7 @@ pub nothing-yet : (fits : Fits) (ss : List Slot) → length ss ≤ slots → Kee
 unfolding freshTable
 nothing-yet fits ss l =
     record {
-      whole = pasted-length (replicate size 0) 0 emptyRow 0 width ∙ length-replicate {A = ℕ} size 0;
+      whole = rw (updated-length, length-replicate {A = ℕ} size 0);
       short = l;
       low = λ i a x. absurd (let u = numbered-among x in let z : ⊥ = omega arith in z);
       rows = λ bs len. start-row fits ss bs len (ℕ-discrete (setNumber bs) 0);

@@ -6,7 +6,7 @@ use mathlib.Core.Logic.{_↔_}
 use mathlib.Core.Bool.{Bool, true, false≢true}
 use mathlib.Core.List.{List}
 use mathlib.Core.Option.{Option, some, none}
-use native.Mathlib.Nat.{zero-add, add-assoc}
+use native.Mathlib.Nat.{add-assoc}
 use native.Mathlib.Omega.{arith}
 use lib.ListN.{length, getD, take, replicate, length-replicate}
 use lib.Seq.{ext-getD, getD-take, length-take-le}
@@ -16,6 +16,7 @@ use Rattle.event.specs.declared.Slot.{Slot}
 use Rattle.event.specs.Limits.{slots}
 use Rattle.event.specs.Slots.{noEvent}
 use Rattle.event.proofs.Tests.{by-test}
+use Rattle.event.proofs.Updated.{updated-length, updated-first}
 use Rattle.trace.specs.Tuples.{pick}
 use Rattle.trace.proofs.Verdict.{Answers, match, no-match, best-answers}
 use Rattle.dependence.specs.Dependence.{dependent}
@@ -23,7 +24,7 @@ use Rattle.trace.specs.Match.{HasMatch, Named}
 use Rattle.table.specs.Sets.{lanes, held}
 use Rattle.table.specs.Table.{pasted, lastRow, foundIn, numbersIn}
 use Rattle.table.specs.Keeps.{Fits, Greatest, rowIn, numbersOf, Keeping, kept, missing, Keeps, NumbersFound}
-use Rattle.table.proofs.RowLaws.{pasted-length, pasted-outside, pasted-inside}
+use Rattle.table.proofs.RowLaws.{pasted-outside}
 use Rattle.table.proofs.BitLaws.{number-all, pick-all, listed-length, listed-at}
 use Rattle.table.proofs.Start.{getD-zeros}
 
@@ -87,18 +88,18 @@ module _ (fits : Fits) (ss : List Slot) (log : List Event) (table : List ℕ) (h
       s : d ≤ slots
       s = h .short
 
-      fits-in : 0 + d ≤ length {A = ℕ} (replicate slots 0)
+      fits-in : d ≤ length {A = ℕ} (replicate slots 0)
       fits-in = let l = s in rw (length-replicate {A = ℕ} slots 0) (omega arith)
 
       whole : length (take d read) ≡ d
       whole =
           let l = s in
-          length-take-le d read (rw (pasted-length (replicate slots 0) 0 table (lastRow d + lanes) d, length-replicate {A = ℕ} slots 0) l)
+          length-take-le d read (rw (updated-length, length-replicate {A = ℕ} slots 0) l)
 
       each : (i : ℕ) → i < d → getD (take d read) i 0 ≡ getD (numbersOf d row) i 0
       each i l =
           getD-take d read i 0 l
-          ∙ (rw zero-add at (pasted-inside (replicate slots 0) 0 table (lastRow d + lanes) d i l fits-in))
+          ∙ updated-first 0 (λ j x. getD table (lastRow d + lanes + j) 0) (replicate slots 0) d i l fits-in
           ∙ ap (λ (j : ℕ). getD table j 0) (add-assoc (lastRow d) lanes i)
           ∙ sym (listed-at d (λ j. row (lanes + j)) i l)
 

@@ -7,7 +7,9 @@ use mathlib.Core.List.{List, [], _∷_, _++_}
 use lib.Dec.{eqb, leb, ltb}
 use lib.ListN.{getD, set, replicate}
 use Rattle.event.specs.Limits.{threads, slots}
+use Rattle.event.specs.Updated.{updated}
 use Rattle.clock.specs.declared.Stamp.{Stamp}
+use Rattle.clock.specs.Clocks.{countOf}
 use Rattle.table.specs.declared.Row.{Row}
 use Rattle.table.specs.declared.Limits.{Limits}
 use Rattle.table.specs.declared.Entry.{Entry}
@@ -16,9 +18,8 @@ use Rattle.table.specs.Sets.{lanes, width, held, size, rowOf, spread, ab
 -- ---- rows
 
 -- the list xs, its n entries from f on replaced by those of ys from g on
-unfoldable pub pasted : ℕ → List ℕ → ℕ → List ℕ → ℕ → List ℕ
-pasted zero xs f ys g = xs
-pasted (suc n) xs f ys g = set (pasted n xs f ys g) (f + n) (getD ys (g + n) 0)
+abbrev pub pasted : ℕ → List ℕ → ℕ → List ℕ → ℕ → List ℕ
+pasted n xs f ys g = updated 0 (λ i x. getD ys (g + i) 0) n xs f
 
 -- the row that starts at f
 unfoldable pub rowAt : List ℕ → ℕ → Row
@@ -36,11 +37,11 @@ roomIn r limits = roomTo lanes (r .at) (limits .at)
 
 -- the least place that an event of a slot of thread t may have, by the new event's stamp: any where the slot is not a later one
 abbrev pub limitAt : ℕ → Bool → Stamp → ℕ
-limitAt t later stamp = cond later (cond (ltb t threads) (getD (stamp .at) t 0) 0) 0
+limitAt t later stamp = cond later (countOf t stamp) 0
 
-unfoldable pub limitsTo : ℕ → List ℕ → ℕ → Stamp → List ℕ
-limitsTo zero acting k stamp = replicate lanes 0
-limitsTo (suc n) acting k stamp = set (limitsTo n acting k stamp) n (limitAt (getD acting n 0) (ltb k n) stamp)
+-- those of the first n slots, the new event being at the slot k
+abbrev pub limitsTo : ℕ → List ℕ → ℕ → Stamp → List ℕ
+limitsTo n acting k stamp = updated 0 (λ j x. limitAt (getD acting j 0) (ltb k j) stamp) n (replicate lanes 0) 0
 
 abbrev pub limitsAfter : List ℕ → ℕ → Stamp → Limits
 limitsAfter acting k stamp = record { at = limitsTo slots acting k stamp }

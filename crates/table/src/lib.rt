@@ -147,14 +147,11 @@ fn limits_after(acting: [u8; event::SLOTS], k: usize, stamp: Stamp) -> Limits
 fn limit(thread: u8, later: bool, stamp: Stamp) -> u16
     ensures { λ r. ⌜ r ≡ limitAt thread later stamp ⌝ }
 {
-    if !later {
-        return 0;
+    if later {
+        clock::count_of(thread, stamp)
+    } else {
+        0
     }
-    let t = thread as usize;
-    if t >= clock::THREADS {
-        return 0;
-    }
-    stamp.at[t]
 }
 
 // Goes through the sets without the entry's slot, which are half of all: the bits of i, with a 0 pasted in at the slot.

@@ -1,5 +1,4 @@
 use Rattle.bilguzor.proofs.Handing.{opened}
-use Prim.Native.Nat.{_-_}
 use borrow.Author.Needs.{needs}
 use Rattle.bilguzor.proofs.bilguzor_open.Statement.{statement}
 use Rattle.bilguzor.proofs.bilguzor_open.Tie as tie

@@ -4,7 +4,6 @@ use Rattle.bilguzor.specs.Parts.{lent}
 use Rattle.bilguzor.specs.Sessions.{handedOver, eventFrom}
 use Rattle.bilguzor.proofs.Events.{Fit, fit}
 use Rattle.bilguzor.proofs.Handing.{turned-away, handed-on}
-use Prim.Native.Nat.{_-_}
 use native.Mathlib.Omega.{arith}
 use mathlib.Core.Path.{ap, sym, _∙_}
 use borrow.Author.Needs.{needs}

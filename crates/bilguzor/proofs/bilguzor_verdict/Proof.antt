@@ -1,5 +1,4 @@
 use Rattle.bilguzor.proofs.Handing.{judged}
-use Prim.Native.Nat.{_-_}
 use borrow.Author.Needs.{needs}
 use Rattle.bilguzor.proofs.bilguzor_verdict.Statement.{statement}
 use Rattle.bilguzor.proofs.bilguzor_verdict.Tie as tie

@@ -1,10 +1,14 @@
 use Rattle.event.specs.Limits.{slots as slotLimit}
-use Rattle.event.proofs.Filled.{Filled, none-filled, one-filled, all-filled}
-use mathlib.Core.Bool.{Bool}
+use Rattle.event.specs.Updated.{updated}
+use Rattle.event.proofs.Filled.{filledTo, all-filled}
+use mathlib.Core.Bool.{Bool, false}
 use lib.Dec.{eqb}
 use Rattle.bilguzor.specs.Parts.{fittingIn}
 use Prim.Native.Nat.{ℕ, _-_, _≤_}
-use mathlib.Core.Path.{refl}
+use mathlib.Core.Path.{_≡_, refl}
+use native.Mathlib.Nat.{zero-add}
+use native.Mathlib.Numerals.{add-one}
+use lib.ListN.{replicate}
 use borrow.Author.Needs.{needs}
 use Rattle.bilguzor.proofs.fitting_in.Statement.{statement}
 use Rattle.bilguzor.proofs.fitting_in.Tie as tie
@@ -13,22 +17,22 @@ abbrev same : ℕ → ℕ → Bool
 same n m = eqb m n
 
 abbrev Inv-loop : tie.InvT-loop
-Inv-loop n slots r₀ j₀ r j = (j ≤ slotLimit) × Filled (same n) slots 0 j r
+Inv-loop n slots r₀ j₀ r j = (j ≤ slotLimit) × (r ≡ filledTo (same n) slots 0 j r₀)
 
 abbrev μ-loop : tie.MeasureT-loop
 μ-loop n slots r₀ j₀ r j = slotLimit - j
 
 loop-holds : tie.Need-loop-holds Inv-loop μ-loop
-loop-holds c = (search needs, none-filled (same (c .args .n)) _ 0 _ (search needs))
+unfolding updated
+loop-holds c = (search needs, refl)
 
 loop-again : tie.Need-loop-again Inv-loop μ-loop
-loop-again c =
-    let l = c .before .loop in
-    (search needs, one-filled (same (c .before .before .args .n)) _ 0 (l .j) (l .r) _ (l .inv .1) (search needs) refl)
+unfolding updated
+loop-again c = (search needs, rw (add-one, zero-add, c .before .loop .inv .1))
 
 returns : tie.Need-returns Inv-loop μ-loop
 unfolding fittingIn
-returns c = all-filled (same (c .before .before .args .n)) _ 0 _ _ (search needs) (c .before .loop .inv .1)
+returns c = all-filled (same (c .before .before .args .n)) (c .before .before .args .t1) 0 (c .before .loop .j) (replicate slotLimit false) _ (c .before .loop .inv .1) (search needs) (search needs)
 
 pub fitting-in-spec : {M : Type 1} → statement M
 fitting-in-spec =

@@ -1,19 +1,6 @@
-use Prim.Native.Nat.{_-_}
 use borrow.Author.Needs.{needs}
 use Rattle.bilguzor.proofs.numbers_of.Statement.{statement}
 use Rattle.bilguzor.proofs.numbers_of.Tie as tie
-
-returns : tie.Need-returns
-returns c = rw (c .enum-told .given .1)
-
-returns-2 : tie.Need-returns-2
-returns-2 c = rw (c .before .outcome .given .1)
-
-returns-3 : tie.Need-returns-3
-returns-3 c = rw (c .before .outcome2 .given .1)
-
-returns-4 : tie.Need-returns-4
-returns-4 c = rw (c .before .outcome3 .given .1)
 
 pub numbers-of-spec : {M : Type 1} → statement M
 numbers-of-spec =
@@ -23,7 +10,7 @@ numbers-of-spec =
     (λ c. search needs)
     (λ c. search needs)
     (λ c. search needs)
-    returns
-    returns-2
-    returns-3
-    returns-4)
+    (λ c. rw (c .enum-told .given .1))
+    (λ c. rw (c .before .outcome .given .1))
+    (λ c. rw (c .before .outcome2 .given .1))
+    (λ c. rw (c .before .outcome3 .given .1)))

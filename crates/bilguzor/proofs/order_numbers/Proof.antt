@@ -2,18 +2,6 @@ use borrow.Author.Needs.{needs}
 use Rattle.bilguzor.proofs.order_numbers.Statement.{statement}
 use Rattle.bilguzor.proofs.order_numbers.Tie as tie
 
-returns : tie.Need-returns
-returns c = rw (c .enum-told .given .1)
-
-returns-2 : tie.Need-returns-2
-returns-2 c = rw (c .enum-told2 .given .1)
-
-returns-3 : tie.Need-returns-3
-returns-3 c = rw (c .before .answer .given .1)
-
-returns-4 : tie.Need-returns-4
-returns-4 c = rw (c .before .answer2 .given .1)
-
 pub order-numbers-spec : {M : Type 1} → statement M
 order-numbers-spec =
     tie.close
@@ -22,7 +10,7 @@ order-numbers-spec =
     (λ c. search needs)
     (λ c. search needs)
     (λ c. search needs)
-    returns
-    returns-2
-    returns-3
-    returns-4)
+    (λ c. rw (c .enum-told .given .1))
+    (λ c. rw (c .enum-told2 .given .1))
+    (λ c. rw (c .before .answer .given .1))
+    (λ c. rw (c .before .answer2 .given .1)))

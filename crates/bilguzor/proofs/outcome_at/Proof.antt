@@ -1,6 +1,4 @@
 use borrow.Author.Tests.{eq-eqb, ne-eqb}
-use Prim.Native.Nat.{_-_}
-use borrow.Author.Needs.{needs}
 use Rattle.bilguzor.proofs.outcome_at.Statement.{statement}
 use Rattle.bilguzor.proofs.outcome_at.Tie as tie
 

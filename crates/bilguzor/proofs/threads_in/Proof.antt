@@ -1,9 +1,13 @@
 use Rattle.event.specs.Limits.{slots as slotLimit}
-use Rattle.event.proofs.Filled.{Filled, none-filled, one-filled, all-filled}
+use Rattle.event.specs.Updated.{updated}
+use Rattle.event.proofs.Filled.{filledTo, all-filled}
 use Prim.Native.Nat.{_/_, _%_}
 use Rattle.bilguzor.specs.Parts.{actingIn}
 use Prim.Native.Nat.{ℕ, _-_, _≤_}
-use mathlib.Core.Path.{refl}
+use mathlib.Core.Path.{_≡_, refl}
+use native.Mathlib.Nat.{zero-add}
+use native.Mathlib.Numerals.{add-one}
+use lib.ListN.{replicate}
 use borrow.Author.Needs.{needs}
 use Rattle.bilguzor.proofs.threads_in.Statement.{statement}
 use Rattle.bilguzor.proofs.threads_in.Tie as tie
@@ -12,22 +16,22 @@ abbrev thread : ℕ → ℕ
 thread m = m / 256 % 256
 
 abbrev Inv-loop : tie.InvT-loop
-Inv-loop slots r₀ j₀ r j = (j ≤ slotLimit) × Filled thread slots 0 j r
+Inv-loop slots r₀ j₀ r j = (j ≤ slotLimit) × (r ≡ filledTo thread slots 0 j r₀)
 
 abbrev μ-loop : tie.MeasureT-loop
 μ-loop slots r₀ j₀ r j = slotLimit - j
 
 loop-holds : tie.Need-loop-holds Inv-loop μ-loop
-loop-holds c = (search needs, none-filled thread _ 0 _ (search needs))
+unfolding updated
+loop-holds c = (search needs, refl)
 
 loop-again : tie.Need-loop-again Inv-loop μ-loop
-loop-again c =
-    let l = c .before .loop in
-    (search needs, one-filled thread _ 0 (l .j) (l .r) _ (l .inv .1) (search needs) refl)
+unfolding updated
+loop-again c = (search needs, rw (add-one, zero-add, c .before .loop .inv .1))
 
 returns : tie.Need-returns Inv-loop μ-loop
 unfolding actingIn
-returns c = all-filled thread _ 0 _ _ (search needs) (c .before .loop .inv .1)
+returns c = all-filled thread (c .before .before .args .t1) 0 (c .before .loop .j) (replicate slotLimit 0) _ (c .before .loop .inv .1) (search needs) (search needs)
 
 pub threads-in-spec : {M : Type 1} → statement M
 threads-in-spec =

@@ -12,14 +12,6 @@ use Rattle.clock.proofs.ClockLaws.{stamp-out, clocks-out, stamp-made, c
 use Rattle.clock.proofs.History.{arrived}
 use Rattle.clock.proofs.advance.Statement.{statement}
 use Rattle.clock.proofs.advance.Tie as tie
-use Rattle.clock.proofs.advance.Reads as reads
-use Rattle.clock.proofs.advance.Lts as lts
-use Rattle.clock.proofs.listen.Reads as listen-reads
-use Rattle.clock.proofs.rows_of.Reads as rows-of-reads
-use Rattle.clock.proofs.tell.Reads as tell-reads
-use Rattle.event.proofs.range.Reads as range-reads
-use Rattle.event.proofs.slot_of.Reads as slot-of-reads
-use Rattle.clock.proofs.thread_row.Reads as thread-row-reads
 
 -- ---- what is known on the way
 

@@ -2,8 +2,6 @@ use mathlib.Core.Path.{refl}
 use Rattle.clock.proofs.History.{nothing-yet}
 use Rattle.clock.proofs.fresh.Statement.{statement}
 use Rattle.clock.proofs.fresh.Tie as tie
-use Rattle.clock.proofs.fresh.Reads as reads
-use Rattle.clock.proofs.fresh.Lts as lts
 
 returns : tie.Need-returns
 returns c = (refl, nothing-yet)

@@ -2,8 +2,6 @@ use borrow.Author.Tests.{not-true, not-false, lt-ltb, le-ltb}
 use borrow.Author.Needs.{needs}
 use Rattle.clock.proofs.next_count.Statement.{statement}
 use Rattle.clock.proofs.next_count.Tie as tie
-use Rattle.clock.proofs.next_count.Reads as reads
-use Rattle.clock.proofs.next_count.Lts as lts
 
 returns : tie.Need-returns
 returns c = rw (not-true (c .before .args .own) (c .if1 .taken))

@@ -1,5 +1,4 @@
 use Rattle.clock.proofs.RowLaws.{same-rows}
-use Prim.Native.Nat.{_-_}
 use borrow.Author.Needs.{needs}
 use Rattle.clock.proofs.rows_beside.Statement.{statement}
 use Rattle.clock.proofs.rows_beside.Tie as tie

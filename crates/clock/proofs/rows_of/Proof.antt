@@ -1,4 +1,3 @@
-use Prim.Native.Nat.{_-_}
 use borrow.Author.Needs.{needs}
 use Rattle.clock.proofs.rows_of.Statement.{statement}
 use Rattle.clock.proofs.rows_of.Tie as tie

@@ -4,13 +4,11 @@ use mathlib.Core.Path.{_≡_, refl}
 use native.Mathlib.Nat.{zero-add}
 use native.Mathlib.Numerals.{add-one}
 use Rattle.event.specs.Limits.{threads}
+use Rattle.event.specs.Updated.{updated}
 use Rattle.clock.specs.Clocks.{raised}
 use borrow.Author.Needs.{needs}
 use Rattle.clock.proofs.tell.Statement.{statement}
 use Rattle.clock.proofs.tell.Tie as tie
-use Rattle.clock.proofs.tell.Reads as reads
-use Rattle.clock.proofs.tell.Lts as lts
-use Rattle.clock.proofs.larger.Reads as larger-reads
 
 abbrev Inv-loop : tie.InvT-loop
 Inv-loop clocks₀ to s i₀ clocks i = (i ≤ threads) × (clocks ≡ raised i clocks₀ to (s .at) 0)
@@ -19,11 +17,11 @@ abbrev μ-loop : tie.MeasureT-loop
 μ-loop clocks₀ to s i₀ clocks i = threads - i
 
 loop-holds : tie.Need-loop-holds Inv-loop μ-loop
-unfolding raised
+unfolding raised updated
 loop-holds c = (search needs, refl)
 
 loop-again : tie.Need-loop-again Inv-loop μ-loop
-unfolding raised
+unfolding raised updated
 loop-again c = (search needs, rw (add-one, zero-add, c .larger .ensures, c .before .before .before .before .loop .inv .1))
 
 returns : tie.Need-returns Inv-loop μ-loop

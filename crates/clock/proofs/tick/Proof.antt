@@ -1,31 +1,34 @@
 use Prim.Native.Nat.{ℕ, _≤_, _-_}
-use mathlib.Core.Path.{_≡_, ap}
+use mathlib.Core.Path.{_≡_, refl, ap}
 use mathlib.Core.List.{List}
+use mathlib.Core.Bool.{cond}
+use native.Mathlib.Nat.{zero-add}
+use native.Mathlib.Numerals.{add-one}
 use native.Mathlib.Omega.{arith}
 use borrow.Author.Needs.{needs}
-use borrow.Author.Tests.{lt-ltb, le-ltb}
+use lib.Dec.{eqb}
 use Rattle.event.specs.Limits.{threads}
-use Rattle.clock.proofs.ClockLaws.{tickedTo, tick-step}
+use Rattle.event.specs.Updated.{updated}
+use Rattle.clock.specs.Clocks.{up}
 use Rattle.clock.proofs.tick.Statement.{statement}
 use Rattle.clock.proofs.tick.Tie as tie
-use Rattle.clock.proofs.tick.Reads as reads
-use Rattle.clock.proofs.tick.Lts as lts
-use Rattle.clock.proofs.next_count.Reads as next-count-reads
 
 abbrev Inv-loop : tie.InvT-loop
-Inv-loop t r₀ i₀ r i = (i ≤ threads) × (r .at ≡ tickedTo i (r₀ .at) t)
+Inv-loop t r₀ i₀ r i = (i ≤ threads) × (r .at ≡ updated 0 (λ u x. cond (eqb t u) (up x) x) i (r₀ .at) 0)
 
 abbrev μ-loop : tie.MeasureT-loop
 μ-loop t r₀ i₀ r i = threads - i
 
 loop-holds : tie.Need-loop-holds Inv-loop μ-loop
-loop-holds c = (search needs, rw (le-ltb (c .args .t) 0 (omega arith)))
+unfolding updated
+loop-holds c = (search needs, refl)
 
 loop-again : tie.Need-loop-again Inv-loop μ-loop
-loop-again c = (search needs, rw (c .next-count .ensures, c .before .before .before .loop .inv .1) (tick-step (c .before .before .before .before .args .s .at) (c .before .before .before .before .args .t) (c .before .before .before .loop .i)))
+unfolding updated
+loop-again c = (search needs, rw (add-one, zero-add, c .next-count .ensures, c .before .before .before .loop .inv .1))
 
 returns : tie.Need-returns Inv-loop μ-loop
-returns c = let k : c .before .loop .i ≡ threads = omega arith in ap (λ (xs : List ℕ). record { at = xs }) (rw (k, lt-ltb (c .before .before .args .t) threads (c .before .before .pre)) at (c .before .loop .inv .1))
+returns c = let k : c .before .loop .i ≡ threads = omega arith in ap (λ (xs : List ℕ). record { at = xs }) (rw k at (c .before .loop .inv .1))
 
 pub tick-spec : {M : Type 1} → statement M
 tick-spec =

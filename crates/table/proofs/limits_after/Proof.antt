@@ -1,7 +1,9 @@
 use Rattle.event.specs.Limits.{slots as slotLimit}
+use Rattle.event.specs.Updated.{updated}
 use Rattle.table.specs.Table.{limitsTo}
 use Prim.Native.Nat.{ℕ, _-_, _≤_}
 use native.Mathlib.Omega.{arith}
+use native.Mathlib.Nat.{zero-add}
 use native.Mathlib.Numerals.{add-one}
 use mathlib.Core.Path.{_≡_, refl, ap}
 use mathlib.Core.List.{List}
@@ -16,12 +18,12 @@ abbrev μ-loop : tie.MeasureT-loop
 μ-loop k stamp acting r₀ j₀ r j = slotLimit - j
 
 loop-holds : tie.Need-loop-holds Inv-loop μ-loop
-unfolding limitsTo
+unfolding updated
 loop-holds c = (search needs, refl)
 
 loop-again : tie.Need-loop-again Inv-loop μ-loop
-unfolding limitsTo
-loop-again c = (search needs, rw (add-one, c .limit .ensures, c .before .before .loop .inv .1))
+unfolding updated
+loop-again c = (search needs, rw (add-one, zero-add, c .limit .ensures, c .before .before .loop .inv .1))
 
 returns : tie.Need-returns Inv-loop μ-loop
 returns c = let k : c .before .loop .j ≡ slotLimit = omega arith in ap (λ (xs : List ℕ). record { at = xs }) (rw k at (c .before .loop .inv .1))

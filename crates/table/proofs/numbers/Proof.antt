@@ -4,6 +4,7 @@ use native.Mathlib.Numerals.{add-one}
 use native.Mathlib.Nat.{zero-add}
 use mathlib.Core.Path.{_≡_, refl, sym, _∙_}
 use Rattle.event.specs.Limits.{slots as slotLimit}
+use Rattle.event.specs.Updated.{updated}
 use Rattle.table.specs.Sets.{lanes, width, size as tableSize}
 use Rattle.table.specs.Table.{pasted, foundIn, numbersIn}
 use Rattle.table.proofs.SetLaws.{found-small}
@@ -42,11 +43,11 @@ last-row-requires : tie.Need-last-row-requires Inv-loop μ-loop
 last-row-requires c κs = found-small _ _ (found-is c)
 
 loop-holds : tie.Need-loop-holds Inv-loop μ-loop
-unfolding pasted
+unfolding updated
 loop-holds c = (search needs, found-small _ _ (found-is (c .before)), c .last-row .ensures .1, refl)
 
 loop-again : tie.Need-loop-again Inv-loop μ-loop
-unfolding pasted
+unfolding updated
 loop-again c = (search needs, search needs, search needs, rw (add-one, zero-add, c .before .before .loop .inv .3))
 
 returns-2 : tie.Need-returns-2 Inv-loop μ-loop

@@ -3,6 +3,7 @@ use native.Mathlib.Omega.{arith}
 use native.Mathlib.Numerals.{add-one}
 use native.Mathlib.Nat.{zero-add}
 use mathlib.Core.Path.{_≡_, refl}
+use Rattle.event.specs.Updated.{updated}
 use Rattle.table.specs.Sets.{width}
 use Rattle.table.specs.Table.{pasted}
 use borrow.Author.Needs.{needs}
@@ -16,11 +17,11 @@ abbrev μ-loop : tie.MeasureT-loop
 μ-loop table₀ to r j₀ table j = width - j
 
 loop-holds : tie.Need-loop-holds Inv-loop μ-loop
-unfolding pasted
+unfolding updated
 loop-holds c = (search needs, refl)
 
 loop-again : tie.Need-loop-again Inv-loop μ-loop
-unfolding pasted
+unfolding updated
 loop-again c = (search needs, rw (add-one, zero-add, c .before .before .loop .inv .1))
 
 returns : tie.Need-returns Inv-loop μ-loop
