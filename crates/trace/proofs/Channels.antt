@@ -1,18 +1,17 @@
 -- Clocks by channels, as events arrive: where an event depends on those before it that tell a channel which it hears,
 -- its stamp is the join of the clocks of the channels that it hears, with one more of its own thread.
 -- Assumes nothing.
-use mathlib.Core.Path.{_≡_, refl, ap, ap₂, _∙_, fun-ext}
+use mathlib.Core.Path.{_≡_, ap, ap₂, _∙_, fun-ext}
 use mathlib.Core.Bool.{Bool, true}
 use mathlib.Core.List.{List, [], _∷_, _++_}
-use Prim.Native.Nat.{ℕ, zero, suc}
-use lib.Dec.{eqb, leb}
+use Prim.Native.Nat.{ℕ, suc}
+use lib.Dec.{eqb}
 use lib.ListN.{length}
-use Rattle.trace.specs.Tuples.{eventAt, depAt, threadAt, Among, one-more, place}
+use Rattle.trace.specs.Tuples.{eventAt, depAt, threadAt, one-more}
 use Rattle.trace.proofs.Lists.{any, length-snoc}
-use Rattle.trace.proofs.Before.{before}
 use Rattle.trace.proofs.Tallies.{raise, highest, highest-same, highest-any, join}
 use Rattle.trace.proofs.Numbers.{event-append, event-new}
-use Rattle.trace.proofs.Stamps.{stampOf, stamp-append, place-append, place-stamp, before-by-stamp}
+use Rattle.trace.proofs.Stamps.{stampOf, stamp-append}
 use Rattle.trace.proofs.Clocks.{stamp-new}
 
 module _ {E : Type 0} (other : E) (dep : E → E → Bool) (thread : E → ℕ) where
@@ -34,10 +33,6 @@ module _ {E C : Type 0} (other : E) (dep : E → E → Bool) (thread : E → ℕ
   -- what the clocks after the events of the list give the next event, which hears these channels
   abbrev pub next-stamp : (E → List C) → List E → E → ℕ → ℕ
   next-stamp hears log e t = one-more (eqb (thread e) t) (join (λ c. clock log c t) (hears e))
-
-  pub clock-nil : (c : C) (t : ℕ) → clock [] c t ≡ zero
-  unfolding clock
-  clock-nil c t = refl
 
   module _ (hears : E → List C) (by-channels : (a b : E) → dep a b ≡ any (tells a) (hears b))
       (one-thread : (a b : E) → thread a ≡ thread b → dep a b ≡ true) (log : List E) (e : E) where
@@ -81,19 +76,3 @@ module _ {E C : Type 0} (other : E) (dep : E → E → Bool) (thread : E → ℕ
         ∙ ap (raise (tells (eventAt other longer (suc (length log))) c) (stampOf other dep thread longer (suc (length log)) t))
         (known-append other dep thread (λ a. tells a c) log (e ∷ []) t)
         ∙ ap₂ (λ a n. raise (tells a c) n (clock log c t)) (event-new other log e) (stamp-snoc t)
-
-    -- whether an event comes before the one that arrives, by its place in its thread
-    pub before-new : (m : ℕ) → Among (length log) m
-        → before depends m (suc (length log))
-        ≡ leb (place (threadAt other thread log) m) (next-stamp hears log e (threadAt other thread log m))
-    before-new m u =
-        before-by-stamp depends threads one m (suc (length log)) (u .0)
-        ∙ ap₂ leb (place-append other thread log (e ∷ []) m (u .1))
-        (stamp-snoc (threads m) ∙ ap (λ a. next-stamp hears log e (thread a)) (event-append other log (e ∷ []) m (u .1)))
-
-    -- the place of the one that arrives in its own thread
-    pub place-new : place threads (suc (length log)) ≡ next-stamp hears log e (thread e)
-    place-new =
-        place-stamp depends threads one (suc (length log))
-        ∙ stamp-snoc (threads (suc (length log)))
-        ∙ ap (λ a. next-stamp hears log e (thread a)) (event-new other log e)

@@ -29,14 +29,10 @@ module _ {E S : Type 0} (dep : E → E → Bool) (fits : S → E → Bool) where
   count-unique {ss} {log} (without d) (smallest {n = n} l h g) = absurd (d (match-whole dep fits ss log n h))
   count-unique (without d) (without d′) = refl
 
-  -- a count above 0 is that of a match, and within the list; of a pattern with slots, 0 is that of none
+  -- a count above 0 is that of a match, and within the list
   pub count-match : {ss : List S} {log : List E} {n : ℕ} → IsCount dep fits ss log (suc n)
       → HasMatch dep fits ss (take (suc n) log) × (suc n ≤ length log)
   count-match (smallest l h g) = (h, l)
-
-  pub count-zero : {s : S} {ss : List S} {log : List E} → IsCount dep fits (s ∷ ss) log zero → ¬ HasMatch dep fits (s ∷ ss) log
-  count-zero {s} {ss} (smallest l h g) = absurd (empty-match dep fits s ss h)
-  count-zero (without d) = d
 
   -- "Once matched, the count stays."
   pub count-stays : (ss : List S) (log later : List E) (n : ℕ) → IsCount dep fits ss log (suc n)
@@ -123,10 +119,3 @@ module _ {E S : Type 0} (other : E) (dep : E → E → Bool) (fits : S → E →
               matches-not (s ∷ ss) (take (length (x ∷ xs)) (x ∷ xs))
               (g (length (x ∷ xs)) (omega arith) (le-refl (length (x ∷ xs))))
               (subst (HasMatch dep fits (s ∷ ss)) (sym (take-length (x ∷ xs))) h)
-
-  -- the count is what is computed
-  pub count-iff : (ss : List S) (log : List E) (n : ℕ) → IsCount dep fits ss log n ↔ (count-of ss log ≡ n)
-  count-iff ss log n = (
-    λ h. count-unique dep fits (count-of-is ss log) h,
-    λ e. subst (IsCount dep fits ss log) e (count-of-is ss log),
-  )

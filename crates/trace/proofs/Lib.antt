@@ -19,10 +19,8 @@ pub mod Search
 pub mod Counts
 -- the greatest good tuple of each list of slots, kept up as events arrive
 pub mod Greatest
-pub mod Rule
 pub mod Masks
 pub mod Arrivals
-pub mod Maxima
 pub mod Verdict
 -- the first example, chosen slot by slot
 pub mod FirstChoice

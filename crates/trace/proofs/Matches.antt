@@ -8,7 +8,7 @@ use mathlib.Core.List.{List, [], _∷_, _++_, map, List·Memᴰ as Mem, List·Me
 use Prim.Native.Nat.{ℕ, _≤_}
 use native.Mathlib.Omega.{arith}
 use lib.ListN.{length, take, drop, take-append-drop}
-use lib.Seq.{length-take-le, take-nil, take-take}
+use lib.Seq.{length-take-le, take-nil}
 use Rattle.trace.specs.Swaps.{Reaches, stay}
 use Rattle.trace.specs.Before.{Numbered}
 use Rattle.trace.specs.Match.{Holds, HasMatch, Each, Pairs, Named}
@@ -89,10 +89,6 @@ module _ {E S : Type 0} (dep : E → E → Bool) (fits : S → E → Bool) where
 
   pub match-whole : (ss : List S) (log : List E) (m : ℕ) → HasMatch dep fits ss (take m log) → HasMatch dep fits ss log
   match-whole ss log m h = rw take-append-drop at (match-append ss (take m log) (drop m log) h)
-
-  pub match-up : (ss : List S) (log : List E) (m n : ℕ) → m ≤ n → HasMatch dep fits ss (take m log)
-      → HasMatch dep fits ss (take n log)
-  match-up ss log m n l h = match-whole ss (take n log) m (rw take-take h)
 
   -- where dependence is mutual, a list and every order reached from it have a match together
   pub match-reached : ((a b : E) → dep a b ≡ dep b a) → (ss : List S) {xs ys : List E} → Reaches dep xs ys
