@@ -6,7 +6,7 @@ use mathlib.Core.Path.{_≡_, refl, sym, ap, _∙_}
 use mathlib.Core.Logic.{_⊎_, inl, inr}
 use mathlib.Core.Bool.{false, _||_}
 use mathlib.Core.Option.{Option, none, some as just}
-use mathlib.Core.List.{List, [], _∷_}
+use mathlib.Core.List.{List, _∷_}
 use mathlib.Mathlib.Data.Bool.Basic.{or-eq-false-eq-eq-false-and-eq-false as neither}
 use native.Mathlib.Omega.{arith}
 use lib.Dec.{eqb}
@@ -48,23 +48,14 @@ namedIn (Forks c) = just c
 namedIn (Joins c) = just c
 namedIn Nothing = none
 
-lock-touched : (op : Operation) → lock (touches op) ≡ lockIn (effects op)
-lock-touched (Read v) = refl
-lock-touched (Write v h) = refl
-lock-touched (Acquire l) = refl
-lock-touched (Release l) = refl
-lock-touched (Fork c) = refl
-lock-touched (Join c) = refl
-lock-touched (Mark m) = refl
-
-name-touched : (op : Operation) → named (touches op) ≡ namedIn (effects op)
-name-touched (Read v) = refl
-name-touched (Write v h) = refl
-name-touched (Acquire l) = refl
-name-touched (Release l) = refl
-name-touched (Fork c) = refl
-name-touched (Join c) = refl
-name-touched (Mark m) = refl
+both-touched : (op : Operation) → (lock (touches op) ≡ lockIn (effects op)) × (named (touches op) ≡ namedIn (effects op))
+both-touched (Read v) = (refl, refl)
+both-touched (Write v h) = (refl, refl)
+both-touched (Acquire l) = (refl, refl)
+both-touched (Release l) = (refl, refl)
+both-touched (Fork c) = (refl, refl)
+both-touched (Join c) = (refl, refl)
+both-touched (Mark m) = (refl, refl)
 
 -- ---- an effect on another lock leaves the lock; one on another thread does not join it
 
@@ -106,10 +97,10 @@ independent a b i =
     let r = neither (namesThreadOf a b) (namesThreadOf b a) .0 (p .1) in
     let s = neither (same (named (touched a)) (just (b .thread))) (same (named (touched a)) (named (touched b))) .0 (r .0) in
     let u = neither (same (named (touched b)) (just (a .thread))) (same (named (touched b)) (named (touched a))) .0 (r .1) in
-    let la = sym (lock-touched (a .operation)) in
-    let lb = sym (lock-touched (b .operation)) in
-    let na = sym (name-touched (a .operation)) in
-    let nb = sym (name-touched (b .operation)) in
+    let la = sym (both-touched (a .operation) .0) in
+    let lb = sym (both-touched (b .operation) .0) in
+    let na = sym (both-touched (a .operation) .1) in
+    let nb = sym (both-touched (b .operation) .1) in
     record { locks = rw (la, lb) (q .1); acting = rw na (s .0); naming = rw (na, nb) (s .1); acted = rw nb (u .0) }
 
 -- ---- the numbers 10 to 14

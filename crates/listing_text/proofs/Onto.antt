@@ -9,7 +9,7 @@ use lib.Seq.{set-append-seam, append-snoc, take-suc, take-all, take-at}
 use borrow.Author.Tests.{lt-ltb}
 use Rattle.listing_text.specs.declared.Page.{Page}
 use Rattle.listing_text.specs.Listing.{enough as room}
-use Rattle.listing_text.specs.Page.{blank, with, onto}
+use Rattle.listing_text.specs.Page.{emptyPage, with, onto}
 
 pub onto-append : (p : Page) (s t : List ℕ) → onto (onto p s) t ≡ onto p (s ++ t)
 unfolding onto
@@ -53,7 +53,7 @@ pub record Holding (t : List ℕ) (p : Page) : Type 0 where
   pub size : p .size ≤ room
   pub text : take (p .size) (p .bytes) ≡ t
 
-pub holding : (t : List ℕ) (p : Page) → length t ≤ room → p ≡ onto blank t → Holding t p
+pub holding : (t : List ℕ) (p : Page) → length t ≤ room → p ≡ onto emptyPage t → Holding t p
 holding t p h q =
     rw (q ∙ holds [] t (omega arith))
     (record {

@@ -11,8 +11,8 @@ use Rattle.listing_text.specs.declared.Page.{Page}
 use Rattle.listing_text.specs.Listing.{enough as room}
 use Rattle.listing_text.specs.Text.{slotLine, refusalLine, patternRefusalLine, noMatchLine, matchLine}
 
-abbrev pub blank : Page
-blank = record { bytes = replicate room 0; size = 0 }
+abbrev pub emptyPage : Page
+emptyPage = record { bytes = replicate room 0; size = 0 }
 
 -- a page with a byte more; a full one stays as it is
 abbrev pub with : Page → ℕ → Page

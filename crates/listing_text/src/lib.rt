@@ -11,7 +11,7 @@ ghost use mathlib.Core.Bool.{cond};
 ghost use mathlib.Core.List.{List, []};
 ghost use lib.ListN.{length};
 ghost use Rattle.listing_text.specs.Text.{ascii, figures as figuresOf, decimal, metresText, heightText, operationText, slotLine, refusalLine, matchLine};
-ghost use Rattle.listing_text.specs.Page.{blank, with, onto, linesOf, textOf};
+ghost use Rattle.listing_text.specs.Page.{emptyPage, with, onto, linesOf, textOf};
 ghost use Rattle.listing_text.specs.Listing.{enough as room, Listing, ListedIn};
 
 // The longest pattern or log that is listed, in bytes.
@@ -41,7 +41,7 @@ pub fn write(pattern: &[u8], log: &[u8], buffer: &mut [u8]) -> Written
 }
 
 fn listing(pattern: &[u8], log: &[u8]) -> Page
-    ensures { λ r. ⌜ ((text : List ℕ) × Listing (now (pattern .entry)) (now (log .entry)) text × (length text ≤ room) × (r ≡ onto blank text)) ⌝ }
+    ensures { λ r. ⌜ ((text : List ℕ) × Listing (now (pattern .entry)) (now (log .entry)) text × (length text ≤ room) × (r ≡ onto emptyPage text)) ⌝ }
 {
     let p = empty();
     if LONGEST < pattern.len() {
@@ -84,7 +84,7 @@ fn slot_lines(from: Page, log: &[u8], numbers: [u16; event::SLOTS]) -> Page
 }
 
 fn empty() -> Page
-    ensures { λ r. ⌜ r ≡ blank ⌝ }
+    ensures { λ r. ⌜ r ≡ emptyPage ⌝ }
 {
     Page {
         bytes: [0; ROOM],

@@ -2,8 +2,6 @@
 use Prim.Native.Nat.{ℕ}
 use mathlib.Core.Bool.{cond}
 use lib.Dec.{eqb, ltb}
-use lib.ListN.{getD}
-use Rattle.event.specs.Limits.{threads}
 use Rattle.clock.specs.declared.Stamp.{Stamp}
 use Rattle.clock.specs.Clocks.{countOf, comesBefore}
 use Rattle.order.specs.declared.Watch.{Watch}

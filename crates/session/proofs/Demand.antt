@@ -3,7 +3,6 @@ use Prim.Native.Nat.{ℕ}
 use native.Mathlib.Omega.{arith}
 use mathlib.Core.Path.{_≡_, refl, sym, ap, ap₂, _∙_}
 use mathlib.Core.Logic.{_↔_}
-use mathlib.Core.Bool.{Bool, true}
 use mathlib.Core.List.{List, [], _∷_, reverse, reverse-reverse}
 use lib.ListN.{length, replicate}
 use borrow.Author.Tests.{eq-eqb}
@@ -12,7 +11,8 @@ use Rattle.event.specs.declared.Slot.{Slot}
 use Rattle.rules.specs.Accepted.{Accepted, AcceptedAfter, one-more, refusalAfter, takenAfter, takenFrom}
 use Rattle.rules.proofs.AcceptedLists.{all-taken}
 use Rattle.command.specs.Bytes.{Bytes}
-use Rattle.log.specs.Whole.{Heights, Whole, accepted, refused as refusedAt, logBytes, readLog, readPattern}
+use Rattle.log.specs.Whole.{Heights, accepted, logBytes, readLog, readPattern}
+use Rattle.log.proofs.Rows.{refused-not-accepted, one-list}
 use Rattle.log.proofs.LogRoundTrip.{log-read, log-iff}
 use Rattle.trace.proofs.Lists.{same-test}
 use Rattle.trace.specs.Swaps.{Swap, here, later, stay, swap}
@@ -55,22 +55,15 @@ no-refusal [] a = refl
 no-refusal {past} (e ∷ es) (one-more z a) =
     rw (eq-eqb (refusalAfter past e) 0 z, z) (ap (λ (ns : List Refusal). refusal 0 0 ∷ ns) (no-refusal es a))
 
--- a reading is accepted or refused, not both
-apart : {A B : Type 0} (xs : List B) (k o : ℕ) → accepted xs ≡ refusedAt k o → A
-apart xs k o h = absurd (let z : _≡_ {A = ℕ} 0 1 = cc in let f : ⊥ = omega arith in f)
-
-same-list : {B : Type 0} {xs ys : List B} → accepted xs ≡ accepted ys → xs ≡ ys
-same-list h = cc
-
 -- a run on a pattern that is read as ss, over a log that is read as es, gives a verdict of that list
 pub run-over : (ss : List Slot) (es : List Event) (pattern bytes : List ℕ) → readPattern pattern ≡ accepted ss → readLog bytes ≡ accepted es → (g : Given)
     → RunOf pattern bytes g → (g .refused ≡ nothing) × VerdictOf ss es (g .ruling)
-run-over ss es pattern bytes p q g (pattern-refused {k} {o} a) = apart ss k o (sym p ∙ a)
+run-over ss es pattern bytes p q g (pattern-refused a) = refused-not-accepted (sym a ∙ p)
 run-over ss es pattern bytes p q g (over-log {ss = found} a on) = go on
   where
     go : {g : Given} → RunOn found bytes g → (g .refused ≡ nothing) × VerdictOf ss es (g .ruling)
-    go (log-refused {k} {o} b) = apart es k o (sym q ∙ b)
-    go (judged b v first) = (refl, rw (same-list (sym p ∙ a), same-list (sym q ∙ b)) v)
+    go (log-refused b) = refused-not-accepted (sym b ∙ q)
+    go (judged b v first) = (refl, rw (one-list (sym p ∙ a), one-list (sym q ∙ b)) v)
 
 -- what is so of a described session with no event taken
 module _ (ss : List Slot) (s : Session) (h : Describes ss [] s) (events : List Event) where

@@ -3,7 +3,7 @@ use Prim.Native.Nat.{ℕ, _<_}
 use native.Mathlib.Decide.{decLt}
 use native.Mathlib.Omega.{arith}
 use mathlib.Core.Path.{_≡_, refl, sym, ap, subst, _∙_}
-use mathlib.Core.Bool.{Bool, true, false, false≢true}
+use mathlib.Core.Bool.{false≢true}
 use mathlib.Core.List.{List}
 use lib.ListN.{length, getD, take}
 use lib.Seq.{getD-take}
@@ -17,7 +17,8 @@ use Rattle.trace.proofs.First as first
 use Rattle.dependence.specs.Dependence.{dependent}
 use Rattle.dependence.specs.Order.{HasMatch, IsCount, IsFirst}
 use Rattle.dependence.proofs.Dependent.{fit-one-slot}
-use Rattle.log.specs.Whole.{Whole, accepted, refused}
+use Rattle.log.specs.Whole.{Whole, refused}
+use Rattle.log.proofs.Rows.{refused-not-accepted, one-list}
 use Rattle.session.specs.Answers.{refusal, Ruling, Given}
 use Rattle.session.specs.Meaning.{VerdictOf, RunOn, log-refused, judged, RunOf, pattern-refused, over-log}
 
@@ -71,20 +72,14 @@ pub record SameGiven (g h : Given) : Type 0 where
   pub refusal : g .refusal ≡ h .refusal
   pub ruling : SameRuling (g .ruling) (h .ruling)
 
--- what is read is accepted or refused, and only as one list or by one number and offset
-never : {A B : Type 0} {k o : ℕ} {xs : List A} → _≡_ {A = Whole A} (refused k o) (accepted xs) → B
-never q = absurd (let z : _≡_ {A = ℕ} 0 1 = cc in let f : ⊥ = omega arith in f)
-
+-- what is refused is so by one number and offset
 one-refusal : {A : Type 0} {k o k' o' : ℕ} → _≡_ {A = Whole A} (refused k o) (refused k' o') → refusal k o ≡ refusal k' o'
 one-refusal {k = k} {o = o} {k' = k'} {o' = o'} q = let n : k ≡ k' = cc in let p : o ≡ o' = cc in rw (n, p) refl
 
-one-list : {A : Type 0} {xs ys : List A} → _≡_ {A = Whole A} (accepted xs) (accepted ys) → xs ≡ ys
-one-list q = cc
-
 one-on : {ss : List Slot} {bytes : List ℕ} {g h : Given} → RunOn ss bytes g → RunOn ss bytes h → SameGiven g h
 one-on (log-refused p) (log-refused q) = record { refused = refl; refusal = one-refusal (sym p ∙ q); ruling = itself _ }
-one-on (log-refused p) (judged q w g) = never (sym p ∙ q)
-one-on (judged p v f) (log-refused q) = never (sym q ∙ p)
+one-on (log-refused p) (judged q w g) = refused-not-accepted (sym p ∙ q)
+one-on (judged p v f) (log-refused q) = refused-not-accepted (sym q ∙ p)
 one-on {ss} (judged {es = es} {r = r} p v f) (judged {es = es'} {r = s} q w g) =
     let e : es' ≡ es = one-list (sym q ∙ p) in
     record {
@@ -97,8 +92,8 @@ one-on {ss} (judged {es = es} {r = r} p v f) (judged {es = es'} {r = s} q w g) =
 
 pub one-answer : {pattern bytes : List ℕ} {g h : Given} → RunOf pattern bytes g → RunOf pattern bytes h → SameGiven g h
 one-answer (pattern-refused p) (pattern-refused q) = record { refused = refl; refusal = one-refusal (sym p ∙ q); ruling = itself _ }
-one-answer (pattern-refused p) (over-log q r) = never (sym p ∙ q)
-one-answer (over-log p r) (pattern-refused q) = never (sym q ∙ p)
+one-answer (pattern-refused p) (over-log q r) = refused-not-accepted (sym p ∙ q)
+one-answer (over-log p r) (pattern-refused q) = refused-not-accepted (sym q ∙ p)
 one-answer {bytes = bytes} {h = h} (over-log {ss = ss} p r) (over-log {ss = ss'} q s) =
     let e : ss' ≡ ss = one-list (sym q ∙ p) in
     one-on r (subst (λ (xs : List Slot). RunOn xs bytes h) e s)

@@ -8,10 +8,9 @@ use mathlib.Core.List.{List, [], _∷_, List·Memᴰ as Mem, List·Memᴰ·head 
 use mathlib.Core.List.{List·Memᴰ·not-nil as not-mem-nil}
 use lib.ListN.{length}
 use Rattle.event.specs.declared.Event.{Event}
-use Rattle.event.specs.declared.Operation.the-variants.{Mark}
 use Rattle.event.specs.declared.Slot.{Slot}
 use Rattle.event.specs.Range.{rangeRefusalUnder}
-use Rattle.event.specs.Slots.{fits}
+use Rattle.event.specs.Slots.{fits, noEvent}
 use Rattle.rules.specs.Accepted.{some, lockOf, refusalUnder}
 use Rattle.command.specs.Reading.{decode, readSlotUnder}
 use Rattle.log.specs.Whole.{Whole, accepted, refused, outcomeOf, rowFrom, stepUnder, readLog, readLogUnder, slotUnder, readPattern, readPatternUnder}
@@ -26,10 +25,6 @@ use Rattle.height.specs.Rounding.{metresOf}
 use Rattle.listing_text.specs.Text.{figures, heightText}
 use Rattle.trials.specs.Trials.{Verdict, match, none, Trial, judged, any-pattern, reads, prints, IsVerdict, Shows, All, trials}
 use Rattle.trials.proofs.Search.{nameable, nameable-named, named-nameable}
-
--- what stands for the event of a number that a list has not
-abbrev noEvent : Event
-noEvent = record { thread = 0; operation = Mark 0 }
 
 -- what a plain search finds: the count and the only numbers that can be named, or nothing
 abbrev Found : List Slot → List Event → Verdict → Type 0

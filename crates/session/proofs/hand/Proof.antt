@@ -1,6 +1,5 @@
 use Rattle.session.specs.Model.{Kept}
 use Rattle.session.proofs.Steps.{room, kept-refused, kept-matched, kept-searched, kept-taken}
-use Prim.Native.Nat.{_-_}
 use native.Mathlib.Omega.{arith}
 use mathlib.Core.Path.{sym, _∙_}
 use borrow.Author.Needs.{needs}

@@ -1,7 +1,6 @@
 use mathlib.Core.Path.{ap, _∙_}
 use Rattle.session.specs.Model.{answerBy}
 use Rattle.session.proofs.Steps.{handed-is, after}
-use Prim.Native.Nat.{_-_}
 use mathlib.Core.Path.{ap, _∙_}
 use borrow.Author.Needs.{needs}
 use Rattle.session.proofs.Session.take.Statement.{statement}
