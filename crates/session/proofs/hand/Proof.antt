@@ -6,12 +6,15 @@ use borrow.Author.Needs.{needs}
 use Rattle.session.proofs.hand.Statement.{statement}
 use Rattle.session.proofs.hand.Tie as tie
 
+-- what was kept before the call
+abbrev kept-first : tie.Start → Kept
+kept-first c = let a = c .args in record { state = a .state .now; clocks = a .clocks .now; table = a .table .now; taken = a .taken .now; count = a .count .now }
+
 returns : tie.Need-returns
 returns c =
-    let a = c .before .before .before .before .args in
-    let k : Kept = record { state = a .state .now; clocks = a .clocks .now; table = a .table .now; taken = a .taken .now; count = a .count .now } in
+    let s = c .before .before .before .before in
     let r = c .before .admit .ensures in
-    (r .0, kept-refused _ _ _ k (a .e) _ (r .1 .0) (λ z. c .if1 .taken (r .0 ∙ z)))
+    (r .0, kept-refused _ _ _ (kept-first s) (s .args .e) _ (r .1 .0) (λ z. c .if1 .taken (r .0 ∙ z)))
 
 cast-n : tie.Need-cast-n
 cast-n c =
@@ -21,20 +24,18 @@ cast-n c =
 
 returns-2 : tie.Need-returns-2
 returns-2 c =
-    let a = c .before .before .before .before .before .before .args in
-    let k : Kept = record { state = a .state .now; clocks = a .clocks .now; table = a .table .now; taken = a .taken .now; count = a .count .now } in
+    let s = c .before .before .before .before .before .before in
     let r = c .before .before .before .admit .ensures in
     let z = sym (r .0) ∙ c .before .before .if1 .left in
-    (sym z, kept-taken _ _ _ k _ (a .e) z (kept-matched _ _ _ k (a .e) _ (r .1 .0) (c .if2 .taken)))
+    (sym z, kept-taken _ _ _ (kept-first s) _ (s .args .e) z (kept-matched _ _ _ (kept-first s) (s .args .e) _ (r .1 .0) (c .if2 .taken)))
 
 returns-3 : tie.Need-returns-3
 returns-3 c =
-    let a = c .before .before .before .before .before .before .before .before .before .before .before .before .args in
-    let k : Kept = record { state = a .state .now; clocks = a .clocks .now; table = a .table .now; taken = a .taken .now; count = a .count .now } in
+    let s = c .before .before .before .before .before .before .before .before .before .before .before .before in
     let r = c .before .before .before .before .before .before .before .before .before .admit .ensures in
     let z = sym (r .0) ∙ c .before .before .before .before .before .before .before .before .if1 .left in
     let clocked = c .before .before .before .before .advance .ensures in
-    (sym z, kept-taken _ _ _ k _ (a .e) z (kept-searched _ _ _ k (a .e) _ (r .1 .0) _ _ _ _ (c .before .before .before .before .before .before .if2 .left) (clocked .0) (clocked .1 .0) (c .before .before .offer .ensures .0) (c .count-at .ensures)))
+    (sym z, kept-taken _ _ _ (kept-first s) _ (s .args .e) z (kept-searched _ _ _ (kept-first s) (s .args .e) _ (r .1 .0) _ _ _ _ (c .before .before .before .before .before .before .if2 .left) (clocked .0) (clocked .1 .0) (c .before .before .offer .ensures .0) (c .count-at .ensures)))
 
 pub hand-spec : {M : Type 1} → statement M
 hand-spec =
