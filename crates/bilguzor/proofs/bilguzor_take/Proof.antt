@@ -19,30 +19,6 @@ returns c =
     let a = c .before .before .args in
     turned-away (lent (a .slots .now) (a .size) (a .state .now) (a .clocks .now) (a .table .now) (a .taken .now) (a .count .now)) (a .thread) (a .operation) (a .object) (a .height) _ (c .before .unfit .ensures) (c .if1 .taken)
 
-cast-event-of : tie.Need-cast-event-of
-cast-event-of c = let l = fit-there c .thread in omega arith
-
-cast-event-of-2 : tie.Need-cast-event-of-2
-cast-event-of-2 c = let l = fit-there c .low in omega arith
-
-cast-event-of-3 : tie.Need-cast-event-of-3
-cast-event-of-3 c = let l = fit-there c .object in omega arith
-
-event-of-requires : tie.Need-event-of-requires
-event-of-requires c κs = fit-there c .narrow
-
-mul-fitting-in : tie.Need-mul-fitting-in
-mul-fitting-in c = let f = fit-there (c .before .before .before) in let x = f .thread in let y = f .low in let z = f .object in omega arith
-
-add-fitting-in : tie.Need-add-fitting-in
-add-fitting-in c = let f = fit-there (c .before .before .before) in let x = f .thread in let y = f .low in let z = f .object in omega arith
-
-mul-fitting-in-2 : tie.Need-mul-fitting-in-2
-mul-fitting-in-2 c = let f = fit-there (c .before .before .before) in let x = f .thread in let y = f .low in let z = f .object in omega arith
-
-add-fitting-in-2 : tie.Need-add-fitting-in-2
-add-fitting-in-2 c = let f = fit-there (c .before .before .before) in let x = f .thread in let y = f .low in let z = f .object in omega arith
-
 returns-2 : tie.Need-returns-2
 returns-2 c =
     let a = c .before .before .before .before .before .before .before .before .before .before .before .before .args in
@@ -56,15 +32,15 @@ bilguzor-take-spec =
     (tie.spec
     (λ c κs. search needs)
     returns
-    cast-event-of
-    cast-event-of-2
-    cast-event-of-3
-    event-of-requires
+    (λ c. omega (arith, fit-there c .thread))
+    (λ c. omega (arith, fit-there c .low))
+    (λ c. omega (arith, fit-there c .object))
+    (λ c κs. fit-there c .narrow)
     (λ c κs. search needs)
-    mul-fitting-in
-    add-fitting-in
-    mul-fitting-in-2
-    add-fitting-in-2
+    (λ c. let f = fit-there (c .before .before .before) in omega (arith, f .thread, f .low, f .object))
+    (λ c. let f = fit-there (c .before .before .before) in omega (arith, f .thread, f .low, f .object))
+    (λ c. let f = fit-there (c .before .before .before) in omega (arith, f .thread, f .low, f .object))
+    (λ c. let f = fit-there (c .before .before .before) in omega (arith, f .thread, f .low, f .object))
     (λ c κs. search needs)
     (λ c κs. search needs)
     returns-2)
