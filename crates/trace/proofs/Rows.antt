@@ -34,11 +34,11 @@ module _ {A : Type 0} {R : A → A → Type 0} where
       → Pairs R (xs ++ ys)
   pairs-join Pairs.none q h = q
   pairs-join {ys = ys} (Pairs.more {x = x} {xs = xs} f p) q h =
-      Pairs.more (λ y m. either (mem-append-cases xs m)) (pairs-join p q (λ z m. h z (tail m)))
+      Pairs.more (λ y m. in-either (mem-append-cases xs m)) (pairs-join p q (λ z m. h z (tail m)))
     where
-      either : {y : A} → Mem y xs ⊎ Mem y ys → R x y
-      either {y} (inl m) = f y m
-      either {y} (inr m) = h x (head refl) y m
+      in-either : {y : A} → Mem y xs ⊎ Mem y ys → R x y
+      in-either {y} (inl m) = f y m
+      in-either {y} (inr m) = h x (head refl) y m
 
   pub pairs-left : (xs ys : List A) → Pairs R (xs ++ ys) → Pairs R xs
   pairs-left [] ys p = Pairs.none
