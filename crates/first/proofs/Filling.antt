@@ -12,7 +12,7 @@ use mathlib.Core.List.{List, [], _∷_, _++_}
 use lib.Dec.{eqb, ltb}
 use lib.ListN.{length, getD, set, take, drop, replicate, length-set, length-replicate, getD-replicate, drop-of-length-le, List·getD-eq-default}
 use lib.Seq.{take-all, length-take-le, drop-cons, getD-take, take-suc-set, getD-set-other}
-use borrow.Author.Tests.{eqb-true, ne-eqb, lt-ltb, le-ltb, le-leb, lt-leb}
+use borrow.Author.Tests.{eqb-true, ne-eqb, lt-ltb, le-ltb, le-leb}
 use Rattle.event.proofs.Tests.{by-test}
 use Rattle.event.specs.declared.Event.{Event}
 use Rattle.event.specs.declared.Slot.{Slot}
@@ -27,7 +27,7 @@ use Rattle.trace.proofs.Stamps.{stampOf, stamp-unique}
 use Rattle.trace.proofs.FirstChoice.{start}
 use Rattle.trace.proofs.First.{ChosenOf, StuckOf}
 use Rattle.trace.proofs.FirstArrivals.{joinOf, join-one, chosen-append, join-append, arrives-passes, arrives-takes}
-use Rattle.trace.proofs.FirstArrivals.{settles-on, settles-found, settles-back}
+use Rattle.trace.proofs.FirstArrivals.{settles-on, settles-none, settles-back}
 use Rattle.clock.specs.declared.Stamp.{Stamp}
 use Rattle.clock.specs.Clocks.{higherOf, countOf}
 use Rattle.clock.specs.Arrivals.{StampOf, ClocksOf}
@@ -36,7 +36,7 @@ use Rattle.first.specs.declared.Search.{Search}
 use Rattle.first.specs.Search.{noneFound, filled, lookingOn, isRunning}
 use Rattle.first.specs.Passes.{Leads, SlotsOf, LastsOf, FirstAbove, Stamped}
 use Rattle.first.specs.Holding.{chosenBy, Joined, Underway, Settled, NextIs, Following, Newest}
-use Rattle.first.proofs.Noting.{wanted-at}
+use Rattle.first.proofs.Noting.{keyed-at}
 
 -- the choice at the events of a log and the slots of a pattern
 abbrev ChosenIn : List Slot → List Event → List ℕ → List Slot → Type 0
@@ -68,7 +68,7 @@ joined-append : {es : List Event} {ss left : List Slot} {cs : List ℕ} {stamp :
 joined-append {es} later k h =
     record { whole = h .whole; counts = λ t l. h .counts t l ∙ sym (join-append noEvent dependent threadOf fits es later k t) }
 
-module _ {slots : List Slot} {wanted : List ℕ} {size : ℕ} (so : SlotsOf slots wanted size) where
+module _ {slots : List Slot} {keys : List ℕ} {size : ℕ} (so : SlotsOf slots keys size) where
   abbrev ss : List Slot
   ss = take size slots
 
@@ -86,14 +86,14 @@ module _ {slots : List Slot} {wanted : List ℕ} {size : ℕ} (so : SlotsOf slot
 
   -- ---- nothing is found yet
 
-  pub none-found : 0 < size → Settled [] slots size (noneFound wanted)
+  pub none-found : 0 < size → Settled [] slots size (noneFound keys)
   none-found l =
       record {
         found = record {
           shaped = record { running = refl; whole = length-replicate {A = ℕ} slotLimit 0; beyond = λ j u. no-numbers j };
           steps = start;
           joined = λ u. record { whole = length-replicate {A = ℕ} threads 0; counts = λ t v. getD-replicate {A = ℕ} threads t 0 0 v };
-          want = λ u. wanted-at so 0 l;
+          want = λ u. keyed-at so 0 l;
           done = λ z. absurd (let f : ⊥ = omega arith in f);
         };
         stuck = no-event (drop 0 ss);
@@ -195,14 +195,14 @@ module _ {slots : List Slot} {wanted : List ℕ} {size : ℕ} (so : SlotsOf slot
           max-turn : (x y : ℕ) → max x y ≡ max y x
           max-turn x y = omega arith
 
-      pub fills-on : s .found + 1 < size → Underway es slots size (lookingOn wanted size (filled s n) stamp)
+      pub fills-on : s .found + 1 < size → Underway es slots size (lookingOn keys size (filled s n) stamp)
       fills-on u =
           record {
             shaped = record { running = sym (running-on (s .found) size); whole = whole-now; beyond = beyond-now };
             steps = steps-now;
             joined = λ v.
                 record { whole = heard-length (s .joined) (stamp .at) 0 (h .joined .whole); counts = rw chosen-now counts-now };
-            want = λ v. wanted-at so (s .found + 1) u;
+            want = λ v. keyed-at so (s .found + 1) u;
             done = λ z. absurd (let f : ⊥ = omega arith in f);
           }
 
@@ -221,27 +221,29 @@ module _ {slots : List Slot} {wanted : List ℕ} {size : ℕ} (so : SlotsOf slot
     barred-is : barred ≡ joinIn es (chosenBy s) (slot .thread)
     barred-is = rw (lt-ltb (slot .thread) threads (so .low (s .found) l)) (h .joined l .counts (slot .thread) (so .low (s .found) l))
 
-    -- the last that fits comes before one found or is it, and so do all
+    settled-by : StuckIn es (slot ∷ drop (suc (s .found)) ss) (chosenBy s) → Settled es slots size s
+    settled-by d = record { found = h; stuck = subst (λ (left : List Slot). StuckIn es left (chosenBy s)) (sym (slot-at (s .found) l)) d }
+
+    -- every event that fits comes before one found or is it: the last places tell,
     pub none-earlier : getD last (s .found) 0 ≤ barred → Settled es slots size s
     none-earlier u =
-        record {
-          found = h;
-          stuck = subst (λ (left : List Slot). StuckIn es left (chosenBy s)) (sym (slot-at (s .found) l))
-              (settles-on noEvent dependent threadOf fits one-thread (λ s. s .thread) of-slot es steps-on barred-is (ls .each (s .found) l) (le-leb _ _ u));
-        }
+        settled-by (settles-on noEvent dependent threadOf fits one-thread (λ s. s .thread) of-slot es steps-on barred-is (ls .each (s .found) l) (le-leb _ _ u))
 
-    -- or not, and the first that does not is the next of the choice
-    pub returns-to : barred < getD last (s .found) 0 → (n : ℕ) → FirstAbove es slot barred n → NextIs es slots size s n
-    returns-to u n (inl f) =
+    -- or a return to the start;
+    pub none-above : FirstAbove es slot barred 0 → Settled es slots size s
+    none-above (inl f) = absurd (let u = f .0 in let z : ⊥ = omega arith in z)
+    none-above (inr f) = settled-by (settles-none noEvent dependent threadOf fits one-thread (λ s. s .thread) of-slot es steps-on barred-is (f .1))
+
+    -- or the first that does not is the next of the choice
+    pub returns-to : (n : ℕ) → (n ≡ 0 → ⊥) → FirstAbove es slot barred n → NextIs es slots size s n
+    returns-to n d (inl f) =
         record {
           shaped = h .shaped;
           joined = h .joined l;
           among = f .0;
           steps = settles-back noEvent dependent threadOf fits one-thread (λ s. s .thread) of-slot es steps-on barred-is f;
         }
-    returns-to u n (inr f) =
-        absurd
-        (settles-found noEvent dependent threadOf fits one-thread (λ s. s .thread) of-slot es steps-on barred-is (ls .each (s .found) l) (lt-leb _ _ u) (f .1))
+    returns-to n d (inr f) = absurd (d (f .0))
 
   -- ---- the clocks when an event is found
 
@@ -255,7 +257,7 @@ module _ {slots : List Slot} {wanted : List ℕ} {size : ℕ} (so : SlotsOf slot
   module _ {bytes : List ℕ} {es : List Event} {s : Search} {n : ℕ} (ld : Leads bytes es n) (h : NextIs es slots size s n) (u : s .found + 1 < size)
       {clocks last : List ℕ} {stamp : Stamp} (nw : Newest es slots size s clocks last n stamp) {own : Stamp} {clocks-after last-after : List ℕ} where
     pub own-known : (eqb (s .found) 0 ≡ false → (own ≡ stamp) × ((clocks-after ≡ clocks) × (last-after ≡ last)))
-        → (eqb (s .found) 0 ≡ true → (es : List Event) (m : ℕ) → Leads bytes es m → Stamped es wanted n clocks last own clocks-after last-after)
+        → (eqb (s .found) 0 ≡ true → (es : List Event) (m : ℕ) → Leads bytes es m → Stamped es keys n clocks last own clocks-after last-after)
         → Own es n own clocks-after last-after
     own-known later first =
         by-test (eqb (s .found) 0)

@@ -17,7 +17,7 @@ use Rattle.event.specs.declared.Event.{Event}
 use Rattle.event.specs.declared.Slot.{Slot}
 use Rattle.event.specs.Limits.{events}
 use Rattle.event.specs.Slots.{fits, slotOf, noEvent}
-use Rattle.event.specs.Keys.{slotNumber}
+use Rattle.event.specs.Keys.{slotKey}
 use Rattle.event.proofs.SlotNumbers.{fits-alike}
 use Rattle.dependence.specs.Order.{threadOf}
 use Rattle.trace.specs.Tuples.{one-more, tally, threadAt, eventAt, place}
@@ -142,25 +142,25 @@ stamp-stays : (es later : List Event) (n : ℕ) (s : Stamp) → 0 < n → n ≤ 
 stamp-stays es later n s p l h t low = count-stays es later n t _ (eventAt noEvent es n) (at-numbered noEvent es n (p, l)) (h t low)
 
 -- i events gone past, which the clocks hold, with the last places; and the stamp of the last of them
-pub record Followed (bytes : List ℕ) (es : List Event) (wanted : List ℕ) (last₀ : List ℕ) (clocks last : List ℕ) (stamp : Stamp) (at i : ℕ) : Type 0 where
+pub record Followed (bytes : List ℕ) (es : List Event) (keys : List ℕ) (last₀ : List ℕ) (clocks last : List ℕ) (stamp : Stamp) (at i : ℕ) : Type 0 where
   pub gone : List Event
   pub passed : Midway bytes es gone at
   pub count : length gone ≡ i
   pub held : ClocksOf gone clocks
-  pub lasts : (slots : List Slot) (size : ℕ) → SlotsOf slots wanted size → LastsOf [] slots size last₀ → LastsOf gone slots size last
+  pub lasts : (slots : List Slot) (size : ℕ) → SlotsOf slots keys size → LastsOf [] slots size last₀ → LastsOf gone slots size last
   pub newest : 0 < i → StampOf gone i stamp
 
-module _ {bytes : List ℕ} {es : List Event} {m : ℕ} (ls : Leads bytes es m) {wanted last₀ : List ℕ} where
-  pub followed : {clocks : List ℕ} (stamp : Stamp) → ClocksOf [] clocks → Followed bytes es wanted last₀ clocks last₀ stamp 0 0
+module _ {bytes : List ℕ} {es : List Event} {m : ℕ} (ls : Leads bytes es m) {keys last₀ : List ℕ} where
+  pub followed : {clocks : List ℕ} (stamp : Stamp) → ClocksOf [] clocks → Followed bytes es keys last₀ clocks last₀ stamp 0 0
   followed stamp h =
       record { gone = []; passed = at-start bytes (ls .read); count = refl; held = h; lasts = λ slots size so k. k; newest = λ l. absurd (let z : ⊥ = omega arith in z) }
 
-  module _ {clocks last : List ℕ} {stamp : Stamp} {at i : ℕ} (f : Followed bytes es wanted last₀ clocks last stamp at i) where
+  module _ {clocks last : List ℕ} {stamp : Stamp} {at i : ℕ} (f : Followed bytes es keys last₀ clocks last stamp at i) where
     pub still-ahead : i < length es → length (f .gone) < length es
     still-ahead l = let g = f .count in omega arith
 
     pub follows : (l : i < length es) (e : Event) (next : ℕ) → command e next ≡ readEvent bytes at
-        → Followed bytes es wanted last₀ (clocksAfter clocks e) (lastBy clocks wanted (slotNumber (slotOf e)) e last) (stampBy clocks e) next (i + 1)
+        → Followed bytes es keys last₀ (clocksAfter clocks e) (lastBy clocks keys (slotKey (slotOf e)) e last) (stampBy clocks e) next (i + 1)
     follows l e next q =
         let c = ls .count in
         let few = ls .few in
@@ -171,15 +171,15 @@ module _ {bytes : List ℕ} {es : List Event} {m : ℕ} (ls : Leads bytes es m) 
           passed = past-it (f .passed) u e next q;
           count = length-append (f .gone) (e ∷ []) ∙ ap (λ (k : ℕ). k + 1) (f .count);
           held = a .0 .holds;
-          lasts = λ slots size so k. a .1 slots wanted size last so (f .lasts slots size so k);
+          lasts = λ slots size so k. a .1 slots keys size last so (f .lasts slots size so k);
           newest = λ u. subst (λ (k : ℕ). StampOf (f .gone ++ (e ∷ [])) (k + 1) (stampBy clocks e)) (f .count) (a .0 .stamp);
         }
 
-    pub stamped : (n : ℕ) → i ≡ n → 0 < n → StampedTo es wanted n last₀ stamp clocks last
+    pub stamped : (n : ℕ) → i ≡ n → 0 < n → StampedTo es keys n last₀ stamp clocks last
     stamped n q p =
         let c : length (f .gone) ≡ n = f .count ∙ q in
         let s : StampOf (f .gone) n stamp = subst (λ (k : ℕ). StampOf (f .gone) k stamp) q (f .newest (omega arith)) in
-        subst (λ (xs : List Event). StampedTo xs wanted n last₀ stamp clocks last) (sym (f .passed .whole))
+        subst (λ (xs : List Event). StampedTo xs keys n last₀ stamp clocks last) (sym (f .passed .whole))
         (record {
           stamp-is = stamp-stays (f .gone) (f .passed .rest) n stamp p (omega arith) s;
           held = rw (take-at (f .gone) (f .passed .rest) n c) (f .held);

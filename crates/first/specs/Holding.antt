@@ -9,7 +9,7 @@ use Rattle.event.specs.declared.Event.{Event}
 use Rattle.event.specs.declared.Slot.{Slot}
 use Rattle.event.specs.Limits.{threads, slots as slotLimit}
 use Rattle.event.specs.Slots.{fits, noEvent, noSlot}
-use Rattle.event.specs.Keys.{slotNumber}
+use Rattle.event.specs.Keys.{slotKey}
 use Rattle.dependence.specs.Dependence.{dependent}
 use Rattle.dependence.specs.Order.{threadOf}
 use Rattle.trace.specs.Tuples.{Among}
@@ -18,7 +18,7 @@ use Rattle.trace.proofs.FirstArrivals.{joinOf}
 use Rattle.clock.specs.declared.Stamp.{Stamp}
 use Rattle.clock.specs.Arrivals.{StampOf, ClocksOf}
 use Rattle.first.specs.declared.Search.{Search}
-use Rattle.first.specs.Search.{isRunning}
+use Rattle.first.specs.Search.{noKey, isRunning}
 use Rattle.first.specs.Passes.{LastsOf}
 
 -- the events found so far
@@ -41,8 +41,8 @@ pub record Underway (es : List Event) (slots : List Slot) (size : ℕ) (s : Sear
   pub shaped : Shaped size s
   pub steps : ChosenOf noEvent dependent fits (take size slots) es (chosenBy s) (drop (s .found) (take size slots))
   pub joined : s .found < size → Joined es (chosenBy s) (s .joined)
-  pub want : s .found < size → s .want ≡ slotNumber (getD slots (s .found) noSlot)
-  pub done : s .found ≡ size → s .want ≡ 0
+  pub want : s .found < size → s .want ≡ slotKey (getD slots (s .found) noSlot)
+  pub done : s .found ≡ size → s .want ≡ noKey
 
 -- and no event so far can fill the slot looked for
 pub record Settled (es : List Event) (slots : List Slot) (size : ℕ) (s : Search) : Type 0 where

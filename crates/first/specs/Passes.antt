@@ -10,11 +10,11 @@ use Rattle.event.specs.declared.Event.{Event}
 use Rattle.event.specs.declared.Slot.{Slot}
 use Rattle.event.specs.Limits.{threads, slots as slotLimit, events}
 use Rattle.event.specs.Slots.{fits, noEvent, noSlot}
-use Rattle.event.specs.Keys.{slotNumbers}
+use Rattle.event.specs.Keys.{slotKeys}
 use Rattle.dependence.specs.Dependence.{dependent}
 use Rattle.dependence.specs.Order.{threadOf}
 use Rattle.trace.proofs.FirstChoice.{FirstOf, NoneOf}
-use Rattle.trace.proofs.FirstArrivals.{aboveOf, LastOf}
+use Rattle.trace.proofs.FirstArrivals.{aboveOf, BoundOf}
 use Rattle.clock.specs.declared.Stamp.{Stamp}
 use Rattle.clock.specs.Arrivals.{StampOf, ClocksOf}
 use Rattle.command.specs.Reading.{readEvent}
@@ -27,17 +27,17 @@ pub record Leads (bytes : List ℕ) (es : List Event) (n : ℕ) : Type 0 where
   pub count : length es ≡ n
   pub few : n ≤ events
 
--- the slots of a pattern, so many of them, their threads within the limit; and their numbers
-pub record SlotsOf (slots : List Slot) (wanted : List ℕ) (size : ℕ) : Type 0 where
+-- the slots of a pattern, so many of them, their threads within the limit; and their keys
+pub record SlotsOf (slots : List Slot) (keys : List ℕ) (size : ℕ) : Type 0 where
   pub few : size ≤ slotLimit
   pub whole : length slots ≡ slotLimit
-  pub numbers : wanted ≡ slotNumbers slots
+  pub keyed : keys ≡ slotKeys slots
   pub low : (j : ℕ) → j < size → getD slots j noSlot .thread < threads
 
--- for each slot the place, in its thread, of the last event that fits it; 0 where none does
+-- for each slot a place that no event that fits it is above, in its thread
 pub record LastsOf (es : List Event) (slots : List Slot) (size : ℕ) (last : List ℕ) : Type 0 where
   pub whole : length last ≡ slotLimit
-  pub each : (j : ℕ) → j < size → LastOf noEvent dependent threadOf fits es (getD slots j noSlot) (getD last j 0)
+  pub each : (j : ℕ) → j < size → BoundOf noEvent dependent threadOf fits es (getD slots j noSlot) (getD last j 0)
 
 -- whether the event of a number fits the slot and has a place in its thread above j
 abbrev pub fillsAt : List Event → Slot → ℕ → ℕ → Bool
@@ -48,11 +48,11 @@ abbrev pub FirstAbove : List Event → Slot → ℕ → ℕ → Type 0
 FirstAbove es slot j r = FirstOf (fillsAt es slot j) (length es) r ⊎ ((r ≡ zero) × NoneOf (fillsAt es slot j) (length es))
 
 -- the stamp of event number n, and what is kept once it has arrived; before any event the clocks were those of no events
-pub record StampedTo (es : List Event) (wanted : List ℕ) (n : ℕ) (last : List ℕ) (stamp : Stamp) (clocks-after last-after : List ℕ) : Type 0 where
+pub record StampedTo (es : List Event) (keys : List ℕ) (n : ℕ) (last : List ℕ) (stamp : Stamp) (clocks-after last-after : List ℕ) : Type 0 where
   pub stamp-is : StampOf es n stamp
   pub held : ClocksOf (take n es) clocks-after
-  pub lasts : (slots : List Slot) (size : ℕ) → SlotsOf slots wanted size → LastsOf [] slots size last → LastsOf (take n es) slots size last-after
+  pub lasts : (slots : List Slot) (size : ℕ) → SlotsOf slots keys size → LastsOf [] slots size last → LastsOf (take n es) slots size last-after
 
 abbrev pub Stamped : List Event → List ℕ → ℕ → List ℕ → List ℕ → Stamp → List ℕ → List ℕ → Type 0
-Stamped es wanted n clocks last stamp clocks-after last-after =
-    0 < n → n ≤ length es → ClocksOf [] clocks → StampedTo es wanted n last stamp clocks-after last-after
+Stamped es keys n clocks last stamp clocks-after last-after =
+    0 < n → n ≤ length es → ClocksOf [] clocks → StampedTo es keys n last stamp clocks-after last-after

@@ -1,30 +1,37 @@
 -- What each step makes of a search, for every search.
 -- Assumes nothing.
-use Prim.Native.Nat.{ℕ, zero, suc, _+_}
+use Prim.Native.Nat.{ℕ, _+_}
 use mathlib.Core.Bool.{Bool, false, not, cond, _&&_}
 use mathlib.Core.List.{List}
 use lib.Dec.{eqb, ltb}
 use lib.ListN.{getD, set, replicate}
 use Rattle.event.specs.declared.Event.{Event}
+use Rattle.event.specs.declared.Slot.{Slot}
 use Rattle.event.specs.Limits.{slots as slotLimit}
+use Rattle.event.specs.Slots.{fits, noSlot}
+use Rattle.event.specs.Updated.{updated}
 use Rattle.clock.specs.declared.Stamp.{Stamp}
 use Rattle.clock.specs.Clocks.{stampBy, noStamp, higherOf, countOf}
 use Rattle.first.specs.declared.Search.{Search}
 
+-- the key of no slot: it names a thread that no event has
+abbrev pub noKey : ℕ
+noKey = 255
+
 -- nothing is found yet
 abbrev pub noneFound : List ℕ → Search
-noneFound wanted = record { found = 0; want = getD wanted 0 0; running = false; numbers = replicate slotLimit 0; joined = noStamp }
+noneFound keys = record { found = 0; want = getD keys 0 0; running = false; numbers = replicate slotLimit 0; joined = noStamp }
 
 -- the slot looked for has found event number n, and none is looked for
 abbrev pub filled : Search → ℕ → Search
-filled s n = record { found = s .found + 1; want = 0; running = false; numbers = set (s .numbers) (s .found) n; joined = s .joined }
+filled s n = record { found = s .found + 1; want = noKey; running = false; numbers = set (s .numbers) (s .found) n; joined = s .joined }
 
 -- the stamp of the event found is joined with the others, and the next slot is looked for
 abbrev pub lookingOn : List ℕ → ℕ → Search → Stamp → Search
-lookingOn wanted size s stamp =
+lookingOn keys size s stamp =
     record {
       found = s .found;
-      want = getD wanted (s .found) 0;
+      want = getD keys (s .found) 0;
       running = ltb (s .found + 1) size;
       numbers = s .numbers;
       joined = higherOf (s .joined) stamp;
@@ -34,15 +41,18 @@ lookingOn wanted size s stamp =
 abbrev pub isRunning : ℕ → ℕ → Bool
 isRunning found size = not (eqb found 0) && ltb (found + 1) size
 
--- the last places, once an event of this number has come, its place p: of the first n slots it stands for each that has the number
-unfoldable pub notedTo : ℕ → ℕ → ℕ → List ℕ → List ℕ → List ℕ
-notedTo zero number p wanted last = last
-notedTo (suc n) number p wanted last =
-    set (notedTo n number p wanted last) n (cond (eqb (getD wanted n 0) number) p (getD (notedTo n number p wanted last) n 0))
+-- an event fits slot k, counted from 0
+abbrev pub fillsSlot : List Slot → ℕ → Event → Bool
+fillsSlot slots k e = ltb k slotLimit && fits (getD slots k noSlot) e
 
+-- an event of this key fits the slot looked for
+abbrev pub fillsNext : List Slot → Search → ℕ → Event → Bool
+fillsNext slots s key e = eqb (s .want) key && fillsSlot slots (s .found) e
+
+-- the last places, once an event of this key has come, its place p: it stands for each slot that has the key
 abbrev pub noted : ℕ → ℕ → List ℕ → List ℕ → List ℕ
-noted = notedTo slotLimit
+noted key p keys last = updated 0 (λ j x. cond (eqb (getD keys j 0) key) p x) slotLimit last 0
 
 -- the same where the clocks give the event its place
 abbrev pub lastBy : List ℕ → List ℕ → ℕ → Event → List ℕ → List ℕ
-lastBy clocks wanted number e last = noted number (countOf (e .thread) (stampBy clocks e)) wanted last
+lastBy clocks keys key e last = noted key (countOf (e .thread) (stampBy clocks e)) keys last

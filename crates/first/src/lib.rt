@@ -13,27 +13,30 @@ ghost use Rattle.event.specs.Limits.{slots as slotLimit, events};
 ghost use Rattle.event.specs.Slots.{fits};
 ghost use Rattle.trace.proofs.FirstScan.{exceeds};
 ghost use Rattle.clock.specs.Clocks.{stampBy, clocksAfter, noStamp};
-ghost use Rattle.first.specs.Search.{noneFound, filled, lookingOn, noted, lastBy};
+ghost use Rattle.first.specs.Search.{noneFound, filled, lookingOn, fillsSlot, noted, lastBy};
 ghost use Rattle.first.specs.Passes.{Leads, SlotsOf, LastsOf, FirstAbove, Stamped};
 ghost use Rattle.first.specs.Holding.{NextIs, Underway, Settled, Following, Newest};
 
-// How many slots have found their event, these events' numbers, and their stamps joined, so far as slots are left. The number of the slot
-// looked for, 0 where none is; and whether the clocks run: from the first slot found to the last but one.
+// The key of no slot: it names a thread that no event has.
+const NO_KEY: u16 = 255;
+
+// How many slots have found their event, these events' numbers, and their stamps joined, so far as slots are left. The key of the slot
+// looked for, that of no slot where none is; and whether the clocks run: from the first slot found to the last but one.
 pub struct Search {
     pub found: usize,
-    pub want: u32,
+    pub want: u16,
     pub running: bool,
     pub numbers: [u16; event::SLOTS],
     pub joined: Stamp,
 }
 
-// Nothing is found yet; `wanted` are the numbers of the slots.
-pub fn none_found(wanted: [u32; event::SLOTS]) -> Search
-    ensures { λ r. ⌜ r ≡ noneFound wanted ⌝ }
+// Nothing is found yet; `keys` are those of the slots.
+pub fn none_found(keys: [u16; event::SLOTS]) -> Search
+    ensures { λ r. ⌜ r ≡ noneFound keys ⌝ }
 {
     Search {
         found: 0,
-        want: wanted[0],
+        want: keys[0],
         running: false,
         numbers: [0; event::SLOTS],
         joined: Stamp {
@@ -42,19 +45,30 @@ pub fn none_found(wanted: [u32; event::SLOTS]) -> Search
     }
 }
 
-// While the clocks run they take each event, and its place is kept as the last one for each slot that has its number: the event's stamp, or
+// Whether the event fits slot k, counted from 0; there is none from the limit on.
+pub fn fills(slots: [Slot; event::SLOTS], k: usize, e: Event) -> bool
+    ensures { λ r. ⌜ r ≡ fillsSlot slots k e ⌝ }
+{
+    if k >= event::SLOTS {
+        return false;
+    }
+    let slot = slots[k];
+    event::fit(slot, e)
+}
+
+// While the clocks run they take each event, and its place is kept as the last one for each slot that has its key: the event's stamp, or
 // no counts where they stand still.
 pub fn follow(
     running: bool,
     clocks: &mut [u16; clock::CLOCKS],
     last: &mut [u16; event::SLOTS],
-    wanted: [u32; event::SLOTS],
-    number: u32,
+    keys: [u16; event::SLOTS],
+    key: u16,
     e: Event,
 ) -> Stamp
     ensures stamp { λ r. ⌜ r ≡ cond running (stampBy (now (clocks .entry)) e) noStamp ⌝ }
     ensures clocks { λ r. ⌜ now (clocks .exit) ≡ cond running (clocksAfter (now (clocks .entry)) e) (now (clocks .entry)) ⌝ }
-    ensures last { λ r. ⌜ now (last .exit) ≡ cond running (lastBy (now (clocks .entry)) wanted number e (now (last .entry))) (now (last .entry)) ⌝ }
+    ensures last { λ r. ⌜ now (last .exit) ≡ cond running (lastBy (now (clocks .entry)) keys key e (now (last .entry))) (now (last .entry)) ⌝ }
 {
     if !running {
         return Stamp {
@@ -62,16 +76,16 @@ pub fn follow(
         };
     }
     let stamp = clock::advance(clocks, e);
-    note(last, wanted, number, clock::count_of(e.thread, stamp));
+    note(last, keys, key, clock::count_of(e.thread, stamp));
     stamp
 }
 
-// Keeps the place of an event as the last one for each slot that has its number.
-fn note(last: &mut [u16; event::SLOTS], wanted: [u32; event::SLOTS], number: u32, place: u16)
-    ensures { λ _. ⌜ now (last .exit) ≡ noted number place wanted (now (last .entry)) ⌝ }
+// Keeps the place of an event as the last one for each slot that has its key, which every slot that it fits has.
+fn note(last: &mut [u16; event::SLOTS], keys: [u16; event::SLOTS], key: u16, place: u16)
+    ensures { λ _. ⌜ now (last .exit) ≡ noted key place keys (now (last .entry)) ⌝ }
 {
     for j in 0..event::SLOTS {
-        let x = either(wanted[j] == number, place, last[j]);
+        let x = either(keys[j] == key, place, last[j]);
         last[j] = x;
     }
 }
@@ -86,7 +100,7 @@ fn either(b: bool, x: u16, y: u16) -> u16
 pub fn choose(
     log: &[u8],
     slots: [Slot; event::SLOTS],
-    wanted: [u32; event::SLOTS],
+    keys: [u16; event::SLOTS],
     size: usize,
     s: Search,
     n: usize,
@@ -96,23 +110,23 @@ pub fn choose(
 ) -> Search
     requires { ⌜ (s .found < size) × ((size ≤ slotLimit) × (n ≤ events)) ⌝ }
     ensures within { λ r. ⌜ r .found ≤ size ⌝ }
-    ensures settled { λ r. ⌜ ((es : List Event) → Leads (now (log .entry)) es n → SlotsOf slots wanted size → NextIs es slots size s n → Newest es slots size s (now (clocks .entry)) (now (last .entry)) n stamp → Settled es slots size r × Following es slots size r (now (clocks .exit)) (now (last .exit))) ⌝ }
+    ensures settled { λ r. ⌜ ((es : List Event) → Leads (now (log .entry)) es n → SlotsOf slots keys size → NextIs es slots size s n → Newest es slots size s (now (clocks .entry)) (now (last .entry)) n stamp → Settled es slots size r × Following es slots size r (now (clocks .exit)) (now (last .exit))) ⌝ }
 {
     let full = fill(s, n);
     if full.found == size {
         return full;
     }
-    let own = own_stamp(s.found == 0, log, n, wanted, clocks, last, stamp);
-    let next = look_on(wanted, size, full, own);
-    settle(log, slots, wanted, size, next, last, n)
+    let own = own_stamp(s.found == 0, log, n, keys, clocks, last, stamp);
+    let next = look_on(keys, size, full, own);
+    settle(log, slots, keys, size, next, last, n)
 }
 
-// Returns to the start of the log for each slot that an event already read fills: there is one where the place of the last that fits is above
-// what the stamps count.
+// Returns to the start of the log for each slot that an event already read may fill: none does where the place of the last that has its key is
+// not above what the stamps count.
 fn settle(
     log: &[u8],
     slots: [Slot; event::SLOTS],
-    wanted: [u32; event::SLOTS],
+    keys: [u16; event::SLOTS],
     size: usize,
     from: Search,
     last: &[u16; event::SLOTS],
@@ -120,7 +134,7 @@ fn settle(
 ) -> Search
     requires { ⌜ (from .found < size) × ((size ≤ slotLimit) × (n ≤ events)) ⌝ }
     ensures within { λ r. ⌜ (from .found ≤ r .found) × (r .found ≤ size) ⌝ }
-    ensures settled { λ r. ⌜ ((es : List Event) → Leads (now (log .entry)) es n → SlotsOf slots wanted size → Underway es slots size from → LastsOf es slots size (now (last .entry)) → Settled es slots size r) ⌝ }
+    ensures settled { λ r. ⌜ ((es : List Event) → Leads (now (log .entry)) es n → SlotsOf slots keys size → Underway es slots size from → LastsOf es slots size (now (last .entry)) → Settled es slots size r) ⌝ }
 {
     let mut s = from;
     loop {
@@ -132,14 +146,17 @@ fn settle(
             return s;
         }
         let e = first_above(log, n, slot, barred);
+        if e == 0 {
+            return s;
+        }
         s = fill(s, e);
         if s.found == size {
             return s;
         }
         let mut clocks = clock::fresh();
         let mut places = [0u16; event::SLOTS];
-        let stamp = pass(log, e, wanted, &mut clocks, &mut places);
-        s = look_on(wanted, size, s, stamp);
+        let stamp = pass(log, e, keys, &mut clocks, &mut places);
+        s = look_on(keys, size, s, stamp);
     }
 }
 
@@ -154,7 +171,7 @@ fn fill(s: Search, n: usize) -> Search
     let joined = s.joined;
     Search {
         found: k + 1,
-        want: 0,
+        want: NO_KEY,
         running: false,
         numbers,
         joined,
@@ -162,12 +179,12 @@ fn fill(s: Search, n: usize) -> Search
 }
 
 // The stamp of the event found is joined with the others, and the next slot is looked for.
-fn look_on(wanted: [u32; event::SLOTS], size: usize, s: Search, stamp: Stamp) -> Search
+fn look_on(keys: [u16; event::SLOTS], size: usize, s: Search, stamp: Stamp) -> Search
     requires { ⌜ (s .found < slotLimit) × (0 < s .found) ⌝ }
-    ensures { λ r. ⌜ r ≡ lookingOn wanted size s stamp ⌝ }
+    ensures { λ r. ⌜ r ≡ lookingOn keys size s stamp ⌝ }
 {
     let k = s.found;
-    let want = wanted[k];
+    let want = keys[k];
     let numbers = s.numbers;
     let before = s.joined;
     let joined = clock::join(before, stamp);
@@ -185,29 +202,29 @@ fn own_stamp(
     first: bool,
     log: &[u8],
     n: usize,
-    wanted: [u32; event::SLOTS],
+    keys: [u16; event::SLOTS],
     clocks: &mut [u16; clock::CLOCKS],
     last: &mut [u16; event::SLOTS],
     stamp: Stamp,
 ) -> Stamp
     ensures later { λ r. ⌜ (first ≡ false → (r ≡ stamp) × ((now (clocks .exit) ≡ now (clocks .entry)) × (now (last .exit) ≡ now (last .entry)))) ⌝ }
-    ensures first { λ r. ⌜ (first ≡ true → (es : List Event) (m : ℕ) → Leads (now (log .entry)) es m → Stamped es wanted n (now (clocks .entry)) (now (last .entry)) r (now (clocks .exit)) (now (last .exit))) ⌝ }
+    ensures first { λ r. ⌜ (first ≡ true → (es : List Event) (m : ℕ) → Leads (now (log .entry)) es m → Stamped es keys n (now (clocks .entry)) (now (last .entry)) r (now (clocks .exit)) (now (last .exit))) ⌝ }
 {
     if !first {
         return stamp;
     }
-    pass(log, n, wanted, clocks, last)
+    pass(log, n, keys, clocks, last)
 }
 
 // A pass from the start of a log to its event number n: the clocks take each event, the last places are kept. The stamp of that event.
 fn pass(
     log: &[u8],
     n: usize,
-    wanted: [u32; event::SLOTS],
+    keys: [u16; event::SLOTS],
     clocks: &mut [u16; clock::CLOCKS],
     last: &mut [u16; event::SLOTS],
 ) -> Stamp
-    ensures { λ r. ⌜ ((es : List Event) (m : ℕ) → Leads (now (log .entry)) es m → Stamped es wanted n (now (clocks .entry)) (now (last .entry)) r (now (clocks .exit)) (now (last .exit))) ⌝ }
+    ensures { λ r. ⌜ ((es : List Event) (m : ℕ) → Leads (now (log .entry)) es m → Stamped es keys n (now (clocks .entry)) (now (last .entry)) r (now (clocks .exit)) (now (last .exit))) ⌝ }
 {
     let mut stamp = Stamp {
         at: [0; clock::THREADS],
@@ -219,8 +236,8 @@ fn pass(
         let EventRead::Event { event, next } = read else {
             return stamp;
         };
-        let number = event::number_of(event::slot_of(event));
-        stamp = follow(true, clocks, last, wanted, number, event);
+        let key = event::key_of(event::slot_of(event));
+        stamp = follow(true, clocks, last, keys, key, event);
         at = next;
         i += 1;
     }

@@ -16,7 +16,7 @@ use Rattle.event.specs.Limits.{threads, slots as slotLimit, events}
 use Rattle.event.specs.Slots.{fits, noEvent, noSlot, slotOf}
 use Rattle.event.proofs.InRange.{in-range}
 use Rattle.rules.specs.State.{StateOf}
-use Rattle.event.specs.Keys.{slotNumber}
+use Rattle.event.specs.Keys.{slotKey}
 use Rattle.command.specs.Bytes.{Bytes}
 use Rattle.command.specs.Reading.{Reading, command, closed, refused as refusedAt, readEvent}
 use Rattle.log.specs.Whole.{InLimits, no-slot, one-slot, GoodPattern, blank, patternOf, Whole, accepted, refused, readLog, Passing, passed, outcomeOf, patternFrom, readPattern}
@@ -35,7 +35,7 @@ use Rattle.clock.specs.declared.Stamp.{Stamp}
 use Rattle.clock.specs.Clocks.{stampBy, clocksAfter, noStamp}
 use Rattle.clock.specs.Arrivals.{ClocksOf}
 use Rattle.first.specs.declared.Search.{Search}
-use Rattle.first.specs.Search.{noneFound, lastBy}
+use Rattle.first.specs.Search.{noneFound, fillsNext, lastBy}
 use Rattle.first.specs.Passes.{Leads, SlotsOf, LastsOf}
 use Rattle.first.specs.Holding.{chosenBy, Settled, NextIs, Following, Newest}
 use Rattle.first.proofs.Filling.{no-numbers, ss-length, none-found}
@@ -73,7 +73,7 @@ greatest-beyond k n xs l z = go n l
             zero-max : (x : ℕ) → max 0 x ≡ x
             zero-max x = omega arith
 
-module _ {slots : List Slot} {wanted : List ℕ} {size : ℕ} (so : SlotsOf slots wanted size) {es : List Event} {s : Search} (h : Settled es slots size s)
+module _ {slots : List Slot} {keys : List ℕ} {size : ℕ} (so : SlotsOf slots keys size) {es : List Event} {s : Search} (h : Settled es slots size s)
     (w : s .found ≤ size) where
   abbrev ss : List Slot
   ss = take size slots
@@ -133,17 +133,17 @@ module _ {slots : List Slot} {wanted : List ℕ} {size : ℕ} (so : SlotsOf slot
 
 -- ---- one pass
 
-pub record Running (bytes : List ℕ) (slots : List Slot) (wanted : List ℕ) (size : ℕ) (state clocks last : List ℕ) (s : Search) (taken at : ℕ) : Type 0 where
+pub record Running (bytes : List ℕ) (slots : List Slot) (keys : List ℕ) (size : ℕ) (state clocks last : List ℕ) (s : Search) (taken at : ℕ) : Type 0 where
   pub past : List Event
   pub going : walk.Going bytes state taken at past
   pub leads : Leading (readEvent bytes) at 0 (reverse past)
-  pub so : SlotsOf slots wanted size
+  pub so : SlotsOf slots keys size
   pub settled : Settled (reverse past) slots size s
   pub within : s .found ≤ size
   pub following : Following (reverse past) slots size s clocks last
 
-pub started : {bytes state : List ℕ} {slots : List Slot} {wanted : List ℕ} {size : ℕ} (so : SlotsOf slots wanted size) → 0 < size → StateOf [] state
-    → {clocks last : List ℕ} → ClocksOf [] clocks → LastsOf [] slots size last → Running bytes slots wanted size state clocks last (noneFound wanted) 0 0
+pub started : {bytes state : List ℕ} {slots : List Slot} {keys : List ℕ} {size : ℕ} (so : SlotsOf slots keys size) → 0 < size → StateOf [] state
+    → {clocks last : List ℕ} → ClocksOf [] clocks → LastsOf [] slots size last → Running bytes slots keys size state clocks last (noneFound keys) 0 0
 started {bytes} {state} so l h k z =
     record {
       past = [];
@@ -156,8 +156,8 @@ started {bytes} {state} so l h k z =
     }
 
 -- one step of the log
-module _ {bytes state after : List ℕ} {slots : List Slot} {wanted : List ℕ} {size : ℕ} {clocks last : List ℕ} {s : Search} {taken at : ℕ} {outcome : Reading Event}
-    (r : Running bytes slots wanted size state clocks last s taken at) (h : History bytes at state taken outcome after) where
+module _ {bytes state after : List ℕ} {slots : List Slot} {keys : List ℕ} {size : ℕ} {clocks last : List ℕ} {s : Search} {taken at : ℕ} {outcome : Reading Event}
+    (r : Running bytes slots keys size state clocks last s taken at) (h : History bytes at state taken outcome after) where
   pub ended : outcome ≡ closed → RunOn (take size slots) bytes (judgedIs (judgedBy (eqb (s .found) size) (s .numbers)))
   ended q = verdict (r .so) (r .settled) (r .within) bytes (walk.at-end (r .going) h q)
 
@@ -171,7 +171,7 @@ module _ {bytes state after : List ℕ} {slots : List Slot} {wanted : List ℕ} 
     clocks-then = cond (s .running) (clocksAfter clocks e) clocks
 
     abbrev last-then : List ℕ
-    last-then = cond (s .running) (lastBy clocks wanted (slotNumber (slotOf e)) e last) last
+    last-then = cond (s .running) (lastBy clocks keys (slotKey (slotOf e)) e last) last
 
     abbrev stamp-then : Stamp
     stamp-then = cond (s .running) (stampBy clocks e) noStamp
@@ -192,7 +192,7 @@ module _ {bytes state after : List ℕ} {slots : List Slot} {wanted : List ℕ} 
     going-on = walk.one-more (r .going) h e next q
 
     -- it does not fill the slot looked for
-    pub goes-on : (s .want ≡ slotNumber (slotOf e) → ⊥) → Running bytes slots wanted size after clocks-then last-then s (taken + 1) next
+    pub goes-on : fillsNext slots s (slotKey (slotOf e)) e ≡ false → Running bytes slots keys size after clocks-then last-then s (taken + 1) next
     goes-on d =
         record {
           past = e ∷ r .past;
@@ -205,13 +205,13 @@ module _ {bytes state after : List ℕ} {slots : List Slot} {wanted : List ℕ} 
         }
 
     -- or it does
-    pub fills-it : s .want ≡ slotNumber (slotOf e) → s .found < size
+    pub fills-it : fillsNext slots s (slotKey (slotOf e)) e ≡ true → s .found < size
     fills-it w = hits (r .so) (r .settled) (r .within) e (in-limits (r .going) h e next q) w .0
 
-    pub chosen-next : s .want ≡ slotNumber (slotOf e) → (z : Search) (clocks-last last-last : List ℕ) → z .found ≤ size
-        → ((es : List Event) → Leads bytes es (taken + 1) → SlotsOf slots wanted size → NextIs es slots size s (taken + 1)
+    pub chosen-next : fillsNext slots s (slotKey (slotOf e)) e ≡ true → (z : Search) (clocks-last last-last : List ℕ) → z .found ≤ size
+        → ((es : List Event) → Leads bytes es (taken + 1) → SlotsOf slots keys size → NextIs es slots size s (taken + 1)
         → Newest es slots size s clocks-then last-then (taken + 1) stamp-then → Settled es slots size z × Following es slots size z clocks-last last-last)
-        → Running bytes slots wanted size after clocks-last last-last z (taken + 1) next
+        → Running bytes slots keys size after clocks-last last-last z (taken + 1) next
     chosen-next w z clocks-last last-last l f =
         let es : List Event = reverse (e ∷ r .past) in
         let c = count-is in
@@ -249,8 +249,8 @@ usable ss g =
     }
 
 -- an answer is one of the two
-apart : {A : Type 0} (n k o : ℕ) → passed n ≡ Passing.refused k o → A
-apart n k o h = absurd (let z : _≡_ {A = ℕ} 0 1 = cc in let f : ⊥ = omega arith in f)
+refused-not-passed : {A : Type 0} (n k o : ℕ) → passed n ≡ Passing.refused k o → A
+refused-not-passed n k o h = absurd (let z : _≡_ {A = ℕ} 0 1 = cc in let f : ⊥ = omega arith in f)
 
 -- the pattern's answer tells which case its reading was
 pub refused-pattern : (pattern bytes : List ℕ) (k o : ℕ) → Passing.refused k o ≡ outcomeOf (readPattern pattern)
@@ -258,7 +258,7 @@ pub refused-pattern : (pattern bytes : List ℕ) (k o : ℕ) → Passing.refused
 refused-pattern pattern bytes k o a = go (readPattern pattern) refl
   where
     go : (w : Whole Slot) → readPattern pattern ≡ w → RunOf pattern bytes (judgedIs (record { outcome = PatternRefused k o; numbers = replicate slotLimit 0 }))
-    go (accepted ss) q = apart (length ss) k o (sym (a ∙ ap outcomeOf q))
+    go (accepted ss) q = refused-not-passed (length ss) k o (sym (a ∙ ap outcomeOf q))
     go (refused k' o') q =
         let h : Passing.refused k o ≡ Passing.refused k' o' = a ∙ ap outcomeOf q in
         let number : k ≡ k' = cc in
@@ -272,11 +272,11 @@ module _ (pattern bytes : List ℕ) (b : Bytes pattern) (n : ℕ) (a : passed n 
     where
       go : (w : Whole Slot) → readPattern pattern ≡ w → Usable (patternFrom w)
       go (accepted ss) q = usable ss (pattern-iff pattern b ss .0 q .0)
-      go (refused k o) q = apart n k o (a ∙ ap outcomeOf q)
+      go (refused k o) q = refused-not-passed n k o (a ∙ ap outcomeOf q)
 
   pub accepted-pattern : (g : Given) → RunOn (take (patternFrom (readPattern pattern) .size) (patternFrom (readPattern pattern) .slots)) bytes g → RunOf pattern bytes g
   accepted-pattern g = go (readPattern pattern) refl
     where
       go : (w : Whole Slot) → readPattern pattern ≡ w → RunOn (take (patternFrom w .size) (patternFrom w .slots)) bytes g → RunOf pattern bytes g
       go (accepted ss) q h = over-log q (rw (take-append-seam ss (replicate (slotLimit - length ss) blank)) at h)
-      go (refused k o) q h = apart n k o (a ∙ ap outcomeOf q)
+      go (refused k o) q h = refused-not-passed n k o (a ∙ ap outcomeOf q)

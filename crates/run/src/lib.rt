@@ -44,11 +44,11 @@ fn run_on(p: Pattern, log: &[u8]) -> Judged
 {
     let slots = p.slots;
     let size = p.size;
-    let wanted = event::numbers_of(slots);
+    let keys = event::keys_of(slots);
     let mut state = rules::fresh();
     let mut clocks = clock::fresh();
     let mut last = [0u16; event::SLOTS];
-    let mut s = first::none_found(wanted);
+    let mut s = first::none_found(keys);
     let mut taken: usize = 0;
     let mut at: usize = 0;
     loop {
@@ -61,16 +61,20 @@ fn run_on(p: Pattern, log: &[u8]) -> Judged
             return log_refused(number, offset);
         };
         taken += 1;
-        let number = command::number_at(log, at);
+        let key = command::key_at(log, at);
         at = next;
-        let stamp = first::follow(s.running, &mut clocks, &mut last, wanted, number, event);
-        if s.want != number {
+        let stamp = first::follow(s.running, &mut clocks, &mut last, keys, key, event);
+        // Where the keys differ the event does not fit the slot looked for, and else the nested match decides.
+        if s.want != key {
+            continue;
+        }
+        if !first::fills(slots, s.found, event) {
             continue;
         }
         s = first::choose(
             log,
             slots,
-            wanted,
+            keys,
             size,
             s,
             taken,

@@ -19,8 +19,8 @@ use Rattle.trace.proofs.Numbers.{event-append, event-new, dep-append, f
 use Rattle.trace.proofs.Stamps.{place-carry, stampOf, stamp-append}
 use Rattle.trace.proofs.FirstChoice.{FirstOf, NoneOf, none-up, Chosen, start, next, Stuck, chosen-part}
 use Rattle.trace.proofs.First.{ChosenOf, StuckOf}
-use Rattle.trace.proofs.FirstScan.{above, first-same, none-same, join-snoc, place-count, Reached, IsLast, chosen-more, newest-may}
-use Rattle.trace.proofs.FirstScan.{above-may, note-one, last-none, last-found}
+use Rattle.trace.proofs.FirstScan.{above, first-same, none-same, join-snoc, place-count, Bounds, chosen-more, newest-may}
+use Rattle.trace.proofs.FirstScan.{above-may, note-one, bound-none}
 
 -- ---- later events change nothing
 
@@ -51,16 +51,8 @@ module _ {S : Type 0} {n : ℕ} {dep dep′ : ℕ → ℕ → Bool} {fits fits�
   stuck-carry (s ∷ left) cs h d = none-same (may-same s cs h) d
 
   module _ {thread thread′ : ℕ → ℕ} (threads : (i : ℕ) → i ≤ n → thread i ≡ thread′ i) where
-    last-carry : {s : S} {l : ℕ} → IsLast thread fits n s l → IsLast thread′ fits′ n s l
-    last-carry {s} {l} h =
-        record {
-          most = λ m u f. rw (sym (place-carry threads m (u .1))) (h .most m u (alike s m (u .1) ∙ f));
-          reached = go (h .reached);
-        }
-      where
-        go : Reached thread fits n s l → Reached thread′ fits′ n s l
-        go (inl e) = inl e
-        go (inr r) = inr (r .0, r .1, sym (alike s (r .0) (r .1 .1)) ∙ r .2, sym (place-carry threads (r .0) (r .1 .1)) ∙ r .3)
+    bound-carry : {s : S} {l : ℕ} → Bounds thread fits n s l → Bounds thread′ fits′ n s l
+    bound-carry {s} h = record { most = λ m u f. rw (sym (place-carry threads m (u .1))) (h .most m u (alike s m (u .1) ∙ f)) }
 
 -- ---- places by counting
 
@@ -95,9 +87,9 @@ module _ {E S : Type 0} (other : E) (dep : E → E → Bool) (thread : E → ℕ
   abbrev pub aboveOf : List E → S → ℕ → ℕ → Bool
   aboveOf log = above (fitsAt other fits log) (place (threadAt other thread log))
 
-  -- l is the place of the last event that fits s; 0 where none does
-  abbrev pub LastOf : List E → S → ℕ → Type 0
-  LastOf log = IsLast (threadAt other thread log) (fitsAt other fits log) (length log)
+  -- no event that fits s has a place above l
+  abbrev pub BoundOf : List E → S → ℕ → Type 0
+  BoundOf log = Bounds (threadAt other thread log) (fitsAt other fits log) (length log)
 
   -- what the stamps of the chosen, joined, count of a thread
   abbrev pub joinOf : List E → List ℕ → ℕ → ℕ
@@ -148,8 +140,8 @@ module _ {E S : Type 0} (other : E) (dep : E → E → Bool) (thread : E → ℕ
         (rw (length-snoc log e) (omega arith, new-may ∙ t, λ m u v. old-none m (u, omega arith)))
 
   -- no event yet
-  pub last-begins : (s : S) → LastOf [] s 0
-  last-begins s = record { most = λ m u. absurd (omega arith); reached = inl refl }
+  pub bound-begins : (s : S) → BoundOf [] s 0
+  bound-begins s = record { most = λ m u. absurd (omega arith) }
 
   module _ (one-thread : (a b : E) → thread a ≡ thread b → dep a b ≡ true) (of : S → ℕ)
       (of-slot : (s : S) (e : E) → fits s e ≡ true → thread e ≡ of s) where
@@ -160,16 +152,16 @@ module _ {E S : Type 0} (other : E) (dep : E → E → Bool) (thread : E → ℕ
     of-at : (log : List E) (s : S) (i : ℕ) → fitsAt other fits log s i ≡ true → threadAt other thread log i ≡ of s
     of-at log s i = of-slot s (eventAt other log i)
 
-    -- an event arrives: the last place for a slot is its own, where it fits
-    pub last-arrives : (log : List E) (e : E) {s : S} {l : ℕ} → LastOf log s l
-        → LastOf (log ++ (e ∷ [])) s (cond (fits s e) (place (threadAt other thread (log ++ (e ∷ []))) (suc (length log))) l)
-    last-arrives log e {s} {l} h =
+    -- an event arrives: where it passes a test as that of `note-one`, its place is the bound
+    pub bound-arrives : (log : List E) (e : E) {s : S} {l : ℕ} (b : Bool) → (fits s e ≡ true → b ≡ true) → (b ≡ true → thread e ≡ of s) → BoundOf log s l
+        → BoundOf (log ++ (e ∷ [])) s (cond b (place (threadAt other thread (log ++ (e ∷ []))) (suc (length log))) l)
+    bound-arrives log e {s} b all own h =
         rw (length-snoc log e)
-        (subst (λ a. IsLast (threadAt other thread longer) (fitsAt other fits longer) (suc (length log)) s
-        (cond (fits s a) (place (threadAt other thread longer) (suc (length log))) l)) (event-new other log e)
-        (note-one (depAt other dep longer) (threadAt other thread longer) (one-at longer) (fitsAt other fits longer) of (of-at longer)
-        (last-carry (agree-back (dep-append other dep log (e ∷ []))) (λ s i l. sym (fits-append other fits log (e ∷ []) s i l))
-        (λ i l. ap thread (sym (event-append other log (e ∷ []) i l))) h)))
+        (note-one (depAt other dep longer) (threadAt other thread longer) (one-at longer) (fitsAt other fits longer) of (of-at longer) b
+        (λ t. all (subst (λ a. fits s a ≡ true) (event-new other log e) t))
+        (λ t. ap thread (event-new other log e) ∙ own t)
+        (bound-carry (agree-back (dep-append other dep log (e ∷ []))) (λ s i l. sym (fits-append other fits log (e ∷ []) s i l))
+        (λ i l. ap thread (sym (event-append other log (e ∷ []) i l))) h))
       where
         longer : List E
         longer = log ++ (e ∷ [])
@@ -182,17 +174,16 @@ module _ {E S : Type 0} (other : E) (dep : E → E → Bool) (thread : E → ℕ
           above-may (depAt other dep log) (threadAt other thread log) (one-at log) (fitsAt other fits log) of (of-at log) (length log) s j cs
           joined i (u .0)
 
-      -- the last event that fits it has no place above j, and the pass goes on;
-      pub settles-on : {l : ℕ} → LastOf log s l → leb l j ≡ true → StuckOf other dep fits log (s ∷ left) cs
+      -- no event so far has a place above j, and the pass goes on;
+      pub settles-none : NoneOf (aboveOf log s j) (length log) → StuckOf other dep fits log (s ∷ left) cs
+      settles-none = none-same tests
+
+      -- so it is where j is no lower than a bound;
+      pub settles-on : {l : ℕ} → BoundOf log s l → leb l j ≡ true → StuckOf other dep fits log (s ∷ left) cs
       settles-on h t =
-          none-same tests
-          (last-none (depAt other dep log) (threadAt other thread log) (one-at log) (fitsAt other fits log) of (of-at log) j h t)
+          settles-none
+          (bound-none (depAt other dep log) (threadAt other thread log) (one-at log) (fitsAt other fits log) of (of-at log) j h t)
 
-      -- or it has, and some event so far can fill it: the first that has such a place is chosen.
-      pub settles-found : {l : ℕ} → LastOf log s l → leb l j ≡ false → ¬ NoneOf (aboveOf log s j) (length log)
-      settles-found h f d =
-          let r = last-found (depAt other dep log) (threadAt other thread log) (one-at log) (fitsAt other fits log) of (of-at log) j h f in
-          both-ways (r .1) (d _ (r .0))
-
+      -- or the first that has such a place is chosen.
       pub settles-back : {i : ℕ} → FirstOf (aboveOf log s j) (length log) i → ChosenOf other dep fits ss log (cs ++ (i ∷ [])) left
       settles-back f = next k (first-same tests f)

@@ -75,13 +75,9 @@ module _ (thread : ℕ → ℕ) where
 
 module _ {S : Type 0} (thread : ℕ → ℕ) (fits : S → ℕ → Bool) where
   -- l is 0, or the place of one of the first n events that fits s
-  abbrev pub Reached : ℕ → S → ℕ → Type 0
-  Reached n s l = (l ≡ zero) ⊎ ((m : ℕ) × Among n m × (fits s m ≡ true) × (place thread m ≡ l))
-
-  -- l is the place of the last of the first n events that fits s; 0 where none does
-  pub record IsLast (n : ℕ) (s : S) (l : ℕ) : Type 0 where
+  -- no event of the first n that fits s has a place above l
+  pub record Bounds (n : ℕ) (s : S) (l : ℕ) : Type 0 where
     pub most : (m : ℕ) → Among n m → fits s m ≡ true → place thread m ≤ l
-    pub reached : Reached n s l
 
 -- ---- the pass
 
@@ -120,9 +116,6 @@ module _ (dep : ℕ → ℕ → Bool) (thread : ℕ → ℕ) (one-thread : (i j 
     abbrev above-at : S → ℕ → ℕ → Bool
     above-at = above fits (place thread)
 
-    abbrev LastAt : ℕ → S → ℕ → Type 0
-    LastAt = IsLast thread fits
-
     -- the pass's test is that of the choice
     pub above-may : (n : ℕ) (s : S) (j : ℕ) (cs : List ℕ) → j ≡ join (λ c. stamp dep thread c (of s)) cs → (i : ℕ) → 1 ≤ i
         → above-at s j i ≡ may dep fits n s cs i
@@ -134,30 +127,22 @@ module _ (dep : ℕ → ℕ → Bool) (thread : ℕ → ℕ) (one-thread : (i j 
             rw (t, h, sym (of-slot s i t)) (ap not (sym e))
         go (inr f) = rw f
 
-    -- the places of the last events, kept up
-    pub note-one : {n l : ℕ} {s : S} → LastAt n s l → LastAt (suc n) s (cond (fits s (suc n)) (place thread (suc n)) l)
-    note-one {n} {l} {s} h = go (true-or-false (fits s (suc n)))
+    -- A bound is kept up by any test that the events that fit pass, and of the others only events of the slot's thread: the place of the
+    -- newest event that passes it.
+    pub note-one : {n l : ℕ} {s : S} (b : Bool) → (fits s (suc n) ≡ true → b ≡ true) → (b ≡ true → thread (suc n) ≡ of s) → Bounds thread fits n s l
+        → Bounds thread fits (suc n) s (cond b (place thread (suc n)) l)
+    note-one {n} {l} {s} b all own h = go (true-or-false b)
       where
-        old : fits s (suc n) ≡ false → (m : ℕ) → Among (suc n) m → fits s m ≡ true → m ≤ n
+        old : b ≡ false → (m : ℕ) → Among (suc n) m → fits s m ≡ true → m ≤ n
         old f m u t = within (decLe m n)
           where
             within : Dec (m ≤ n) → m ≤ n
             within (yes v) = v
-            within (no d) = let e : m ≡ suc n = omega arith in absurd (both-ways (rw e at t) f)
+            within (no d) = let e : m ≡ suc n = omega arith in absurd (both-ways (all (rw e at t)) f)
 
-        widen : Reached thread fits n s l → Reached thread fits (suc n) s l
-        widen (inl e) = inl e
-        widen (inr r) = inr (r .0, omega arith, r .2, r .3)
-
-        go : (fits s (suc n) ≡ true) ⊎ (fits s (suc n) ≡ false) → LastAt (suc n) s (cond (fits s (suc n)) (place thread (suc n)) l)
-        go (inl t) =
-            rw t
-            (record {
-              most = λ m u f. place-rises thread m (suc n) (of-slot s m f ∙ sym (of-slot s (suc n) t)) (u .1);
-              reached = inr (suc n, omega arith, t, refl);
-            })
-        go (inr f) =
-            rw f (record { most = λ m u t. h .most m (u .0, old f m u t) t; reached = widen (h .reached) })
+        go : (b ≡ true) ⊎ (b ≡ false) → Bounds thread fits (suc n) s (cond b (place thread (suc n)) l)
+        go (inl t) = rw t (record { most = λ m u f. place-rises thread m (suc n) (of-slot s m f ∙ sym (own t)) (u .1) })
+        go (inr f) = rw f (record { most = λ m u t. h .most m (u .0, old f m u t) t })
 
     -- what is above j
     above-parts : (s : S) (j i : ℕ) → above-at s j i ≡ true → (fits s i ≡ true) × (j < place thread i)
@@ -165,9 +150,9 @@ module _ (dep : ℕ → ℕ → Bool) (thread : ℕ → ℕ) (one-thread : (i j 
         let r = and-eq-true-iff (fits s i) (not (leb (place thread i) j)) .0 h in
         (r .0, leb-false (place thread i) j (not-true (leb (place thread i) j) (r .1)))
 
-    -- the last place tells whether there is such an event
-    pub last-none : {n l : ℕ} {s : S} (j : ℕ) → LastAt n s l → leb l j ≡ true → NoneOf (above-at s j) n
-    last-none {n} {l} {s} j h t m u =
+    -- none has a place above j that is no lower than the bound
+    pub bound-none : {n l : ℕ} {s : S} (j : ℕ) → Bounds thread fits n s l → leb l j ≡ true → NoneOf (above-at s j) n
+    bound-none {n} {l} {s} j h t m u =
         failed (above-at s j m)
         (λ a.
         let p = above-parts s j m a in
@@ -175,16 +160,3 @@ module _ (dep : ℕ → ℕ → Bool) (thread : ℕ → ℕ) (one-thread : (i j 
         let r = leb-true l j t in
         let z : ⊥ = omega arith in
         z)
-
-    pub last-found : {n l : ℕ} {s : S} (j : ℕ) → LastAt n s l → leb l j ≡ false → FirstOf (above-at s j) n (lowest (above-at s j) n)
-    last-found {n} {l} {s} j h f = go (lowest-is (above-at s j) n)
-      where
-        clash : Reached thread fits n s l → ((m : ℕ) → 1 ≤ m → m ≤ n → above-at s j m ≡ false) → ⊥
-        clash (inl e) g = let q = leb-false l j f in omega arith
-        clash (inr r) g =
-            let q = leb-false l j f in
-            both-ways (rw (r .2, lt-leb (place thread (r .0)) j (omega arith))) (g (r .0) (r .1 .0) (r .1 .1))
-
-        go : {k : ℕ} → Lowest (above-at s j) n k → FirstOf (above-at s j) n k
-        go (at {k = k} u t g) = (omega arith, t, g)
-        go (nowhere g) = absurd (clash (h .reached) g)

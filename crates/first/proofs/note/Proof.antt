@@ -3,24 +3,28 @@ use native.Mathlib.Omega.{arith}
 use mathlib.Core.Path.{_≡_, refl}
 use Rattle.event.specs.Limits.{slots as slotLimit}
 use native.Mathlib.Numerals.{add-one}
-use Rattle.first.specs.Search.{notedTo}
+use native.Mathlib.Nat.{zero-add}
+use mathlib.Core.Bool.{cond}
+use lib.Dec.{eqb}
+use lib.ListN.{getD}
+use Rattle.event.specs.Updated.{updated}
 use borrow.Author.Needs.{needs}
 use Rattle.first.proofs.note.Statement.{statement}
 use Rattle.first.proofs.note.Tie as tie
 
 abbrev Inv-loop : tie.InvT-loop
-Inv-loop last₀ number place wanted j₀ last j = (j ≤ slotLimit) × (last ≡ notedTo j number place wanted last₀)
+Inv-loop last₀ key place keys j₀ last j = (j ≤ slotLimit) × (last ≡ updated 0 (λ i x. cond (eqb (getD keys i 0) key) place x) j last₀ 0)
 
 abbrev μ-loop : tie.MeasureT-loop
-μ-loop last₀ number place wanted j₀ last j = slotLimit - j
+μ-loop last₀ key place keys j₀ last j = slotLimit - j
 
 loop-holds : tie.Need-loop-holds Inv-loop μ-loop
-unfolding notedTo
+unfolding updated
 loop-holds c = (search needs, refl)
 
 loop-again : tie.Need-loop-again Inv-loop μ-loop
-unfolding notedTo
-loop-again c = (search needs, rw (add-one, c .either .ensures, c .before .before .before .loop .inv .1))
+unfolding updated
+loop-again c = (search needs, rw (add-one, zero-add (c .before .before .before .loop .j), c .either .ensures, c .before .before .before .loop .inv .1))
 
 returns : tie.Need-returns Inv-loop μ-loop
 returns c = let k : c .before .loop .j ≡ slotLimit = omega arith in rw k at (c .before .loop .inv .1)

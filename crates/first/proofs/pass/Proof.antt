@@ -14,11 +14,11 @@ use Rattle.first.proofs.pass.Statement.{statement}
 use Rattle.first.proofs.pass.Tie as tie
 
 abbrev Inv-loop : tie.InvT-loop
-Inv-loop log n wanted clocks₀ last₀ stamp₀ at₀ i₀ clocks last stamp at i =
-    (i ≤ n) × ((es : List Event) (m : ℕ) → Leads log es m → n ≤ length es → ClocksOf [] clocks₀ → Followed log es wanted last₀ clocks last stamp at i)
+Inv-loop log n keys clocks₀ last₀ stamp₀ at₀ i₀ clocks last stamp at i =
+    (i ≤ n) × ((es : List Event) (m : ℕ) → Leads log es m → n ≤ length es → ClocksOf [] clocks₀ → Followed log es keys last₀ clocks last stamp at i)
 
 abbrev μ-loop : tie.MeasureT-loop
-μ-loop log n wanted clocks₀ last₀ stamp₀ at₀ i₀ clocks last stamp at i = n - i
+μ-loop log n keys clocks₀ last₀ stamp₀ at₀ i₀ clocks last stamp at i = n - i
 
 loop-holds : tie.Need-loop-holds Inv-loop μ-loop
 loop-holds c = (search needs, λ es m ls u h. followed ls _ h)
@@ -39,7 +39,7 @@ loop-again c =
     let q = sym (ap eventReadIs (c .before .before .before .before .before .before .read .given .1)) ∙ c .before .before .before .before .before .before .before .before .read-event .ensures in (
       let t = c .before .before .before .before .before .before .before .before .before .loop-test .taken in omega arith,
       λ es m ls u h.
-          rw (c .follow .ensures .0, c .follow .ensures .1 .0, c .follow .ensures .1 .1, c .before .before .before .number-of .ensures, c .before .before .before .before .slot-of .ensures)
+          rw (c .follow .ensures .0, c .follow .ensures .1 .0, c .follow .ensures .1 .1, c .before .before .before .key-of .ensures, c .before .before .before .before .slot-of .ensures)
           (follows ls (l .inv .1 es m ls u h) (let t = c .before .before .before .before .before .before .before .before .before .loop-test .taken in omega arith) _ _ q),
     )
 

@@ -6,7 +6,7 @@ use lib.ListN.{length, length-replicate}
 use Rattle.event.specs.declared.Event.{Event}
 use Rattle.event.specs.Limits.{slots as slotLimit}
 use Rattle.event.specs.Slots.{slotOf}
-use Rattle.event.specs.Keys.{slotNumber}
+use Rattle.event.specs.Keys.{slotKey}
 use Rattle.command.proofs.Inversion.{decode-found}
 use Rattle.log.specs.Step.{steppedIs}
 use Rattle.log.proofs.Steps.{the-end}
@@ -15,22 +15,23 @@ use Rattle.first.specs.Passes.{SlotsOf}
 use Rattle.first.proofs.Noting.{none-last}
 use Rattle.first.proofs.Filling.{no-numbers}
 use Rattle.run.proofs.Running.{Running, started, ended, broke, goes-on, fills-it, chosen-next}
+use borrow.Author.Tests.{eq-eqb, ne-eqb, not-true, not-false}
 use borrow.Author.Needs.{needs}
 use Rattle.run.proofs.run_on.Statement.{statement}
 use Rattle.run.proofs.run_on.Tie as tie
 use Rattle.rules.proofs.fresh.Reads as fresh-reads′
 
 abbrev Inv-loop : tie.InvT-loop
-Inv-loop log slots size wanted state₀ clocks₀ last₀ s₀ taken₀ at₀ state clocks last s taken at = Running log slots wanted size state clocks last s taken at
+Inv-loop log slots size keys state₀ clocks₀ last₀ s₀ taken₀ at₀ state clocks last s taken at = Running log slots keys size state clocks last s taken at
 
 abbrev μ-loop : tie.MeasureT-loop
-μ-loop log slots size wanted state₀ clocks₀ last₀ s₀ taken₀ at₀ state clocks last s taken at = length log - at
+μ-loop log slots size keys state₀ clocks₀ last₀ s₀ taken₀ at₀ state clocks last s taken at = length log - at
 
 loop-holds : tie.Need-loop-holds Inv-loop μ-loop
 loop-holds c =
     let p = c .before .before .before .before .before .before .pre in
-    let so : SlotsOf (c .before .before .before .before .before .before .args .p .slots) (c .before .before .before .numbers-of .result) (c .before .before .before .before .before .before .args .p .size) =
-    record { few = p .few; whole = p .whole; numbers = c .before .before .before .numbers-of .ensures; low = p .low } in
+    let so : SlotsOf (c .before .before .before .before .before .before .args .p .slots) (c .before .before .before .keys-of .result) (c .before .before .before .before .before .before .args .p .size) =
+    record { few = p .few; whole = p .whole; keyed = c .before .before .before .keys-of .ensures; low = p .low } in
     rw (c .none-found .ensures)
     (started so (p .some) (c .before .before .fresh .ensures) (c .before .fresh2 .ensures .1) (none-last so _ (length-replicate {A = ℕ} slotLimit 0) (λ j l. no-numbers j)))
 
@@ -45,8 +46,8 @@ returns-2 c = rw (c .log-refused .ensures) (broke (c .before .before .before .be
 add-taken : tie.Need-add-taken Inv-loop μ-loop
 add-taken c = let r = room (c .before .before .before .before .before .loop .inv .going) (c .before .before .before .step .ensures .1 .1) _ _ (ap steppedIs (c .before .found .given .1)) in omega arith
 
-number-at-requires : tie.Need-number-at-requires Inv-loop μ-loop
-number-at-requires c κs = decode-found true _ _ _ _ (decoded (c .before .before .before .before .before .loop .inv .going) (c .before .before .before .step .ensures .1 .1) _ _ (ap steppedIs (c .before .found .given .1))) .stands
+key-at-requires : tie.Need-key-at-requires Inv-loop μ-loop
+key-at-requires c κs = decode-found true _ _ _ _ (decoded (c .before .before .before .before .before .loop .inv .going) (c .before .before .before .step .ensures .1 .1) _ _ (ap steppedIs (c .before .found .given .1))) .stands
 
 loop-less : tie.Need-loop-less Inv-loop μ-loop
 loop-less c = shorter (c .before .before .before .before .before .before .before .before .before .before .before .loop .inv .going) (c .before .before .before .before .before .before .before .before .before .step .ensures .1 .1) _ _ (ap steppedIs (c .before .before .before .before .before .before .before .found .given .1))
@@ -56,29 +57,41 @@ loop-again c =
     let r = c .before .before .before .before .before .before .before .before .before .before .before .loop .inv in
     let h = c .before .before .before .before .before .before .before .before .before .step .ensures .1 .1 in
     let q = ap steppedIs (c .before .before .before .before .before .before .before .found .given .1) in
-    let n = c .before .before .before .before .before .number-at .ensures ∙ ap (λ (e : Event). slotNumber (slotOf e)) (decode-found true _ _ _ _ (decoded (r .going) h _ _ q) .event) in
+    let n = c .before .before .before .before .before .key-at .ensures ∙ ap (λ (e : Event). slotKey (slotOf e)) (decode-found true _ _ _ _ (decoded (r .going) h _ _ q) .event) in
     let f = c .before .before .follow .ensures .1 in
-    rw (f .0, f .1, n) (goes-on r h _ _ q (λ w. c .if1 .taken (w ∙ sym n)))
-
-choose-requires : tie.Need-choose-requires Inv-loop μ-loop
-choose-requires c κs =
-    let r = c .before .before .before .before .before .before .before .before .before .before .before .before .before .loop .inv in
-    let h = c .before .before .before .before .before .before .before .before .before .before .before .step .ensures .1 .1 in
-    let q = ap steppedIs (c .before .before .before .before .before .before .before .before .before .found .given .1) in
-    let n = c .before .before .before .before .before .before .before .number-at .ensures ∙ ap (λ (e : Event). slotNumber (slotOf e)) (decode-found true _ _ _ _ (decoded (r .going) h _ _ q) .event) in
-    (fills-it r h _ _ q (c .before .before .if1 .left ∙ n), (c .before .before .before .before .before .before .before .before .before .before .before .before .before .before .before .before .before .before .before .before .pre .few, let u = room (r .going) h _ _ q in omega arith))
+    rw (f .0, f .1, n) (goes-on r h _ _ q (rw (ne-eqb _ _ (λ w. c .if1 .taken (w ∙ sym n)))))
 
 loop-less-2 : tie.Need-loop-less-2 Inv-loop μ-loop
-loop-less-2 c = shorter (c .before .before .before .before .before .before .before .before .before .before .before .before .before .before .loop .inv .going) (c .before .before .before .before .before .before .before .before .before .before .before .before .step .ensures .1 .1) _ _ (ap steppedIs (c .before .before .before .before .before .before .before .before .before .before .found .given .1))
+loop-less-2 c = shorter (c .before .before .before .before .before .before .before .before .before .before .before .before .before .loop .inv .going) (c .before .before .before .before .before .before .before .before .before .before .before .step .ensures .1 .1) _ _ (ap steppedIs (c .before .before .before .before .before .before .before .before .before .found .given .1))
 
 loop-again-2 : tie.Need-loop-again-2 Inv-loop μ-loop
 loop-again-2 c =
-    let r = c .before .before .before .before .before .before .before .before .before .before .before .before .before .before .loop .inv in
-    let h = c .before .before .before .before .before .before .before .before .before .before .before .before .step .ensures .1 .1 in
-    let q = ap steppedIs (c .before .before .before .before .before .before .before .before .before .before .found .given .1) in
-    let n = c .before .before .before .before .before .before .before .before .number-at .ensures ∙ ap (λ (e : Event). slotNumber (slotOf e)) (decode-found true _ _ _ _ (decoded (r .going) h _ _ q) .event) in
-    let f = c .before .before .before .before .before .follow .ensures in
-    chosen-next r h _ _ q (c .before .before .before .if1 .left ∙ n) _ _ _ (c .choose .ensures .0)
+    let r = c .before .before .before .before .before .before .before .before .before .before .before .before .before .loop .inv in
+    let h = c .before .before .before .before .before .before .before .before .before .before .before .step .ensures .1 .1 in
+    let q = ap steppedIs (c .before .before .before .before .before .before .before .before .before .found .given .1) in
+    let n = c .before .before .before .before .before .before .before .key-at .ensures ∙ ap (λ (e : Event). slotKey (slotOf e)) (decode-found true _ _ _ _ (decoded (r .going) h _ _ q) .event) in
+    let f = c .before .before .before .before .follow .ensures .1 in
+    rw (f .0, f .1, n) (goes-on r h _ _ q (rw (eq-eqb _ _ (c .before .before .if1 .left ∙ n)) (sym (c .before .fills .ensures) ∙ not-true _ (c .if2 .taken))))
+
+choose-requires : tie.Need-choose-requires Inv-loop μ-loop
+choose-requires c κs =
+    let r = c .before .before .before .before .before .before .before .before .before .before .before .before .before .before .before .loop .inv in
+    let h = c .before .before .before .before .before .before .before .before .before .before .before .before .before .step .ensures .1 .1 in
+    let q = ap steppedIs (c .before .before .before .before .before .before .before .before .before .before .before .found .given .1) in
+    let n = c .before .before .before .before .before .before .before .before .before .key-at .ensures ∙ ap (λ (e : Event). slotKey (slotOf e)) (decode-found true _ _ _ _ (decoded (r .going) h _ _ q) .event) in
+    (fills-it r h _ _ q (rw (eq-eqb _ _ (c .before .before .before .before .if1 .left ∙ n)) (sym (c .before .before .before .fills .ensures) ∙ not-false _ (c .before .before .if2 .left))), (c .before .before .before .before .before .before .before .before .before .before .before .before .before .before .before .before .before .before .before .before .before .before .pre .few, let u = room (r .going) h _ _ q in omega arith))
+
+loop-less-3 : tie.Need-loop-less-3 Inv-loop μ-loop
+loop-less-3 c = shorter (c .before .before .before .before .before .before .before .before .before .before .before .before .before .before .before .before .loop .inv .going) (c .before .before .before .before .before .before .before .before .before .before .before .before .before .before .step .ensures .1 .1) _ _ (ap steppedIs (c .before .before .before .before .before .before .before .before .before .before .before .before .found .given .1))
+
+loop-again-3 : tie.Need-loop-again-3 Inv-loop μ-loop
+loop-again-3 c =
+    let r = c .before .before .before .before .before .before .before .before .before .before .before .before .before .before .before .before .loop .inv in
+    let h = c .before .before .before .before .before .before .before .before .before .before .before .before .before .before .step .ensures .1 .1 in
+    let q = ap steppedIs (c .before .before .before .before .before .before .before .before .before .before .before .before .found .given .1) in
+    let n = c .before .before .before .before .before .before .before .before .before .before .key-at .ensures ∙ ap (λ (e : Event). slotKey (slotOf e)) (decode-found true _ _ _ _ (decoded (r .going) h _ _ q) .event) in
+    let f = c .before .before .before .before .before .before .before .follow .ensures in
+    chosen-next r h _ _ q (rw (eq-eqb _ _ (c .before .before .before .before .before .if1 .left ∙ n)) (sym (c .before .before .before .before .fills .ensures) ∙ not-false _ (c .before .before .before .if2 .left))) _ _ _ (c .choose .ensures .0)
     (λ es ld so t nw. c .choose .ensures .1 es ld so t (rw (f .0, f .1 .0, f .1 .1, n) nw))
 
 pub run-on-spec : {M : Type 1} → statement M
@@ -100,10 +113,13 @@ run-on-spec =
     (λ c κs. search needs)
     returns-2
     add-taken
-    number-at-requires
+    key-at-requires
     (λ c κs. search needs)
     loop-less
     loop-again
-    choose-requires
+    (λ c κs. search needs)
     loop-less-2
-    loop-again-2)
+    loop-again-2
+    choose-requires
+    loop-less-3
+    loop-again-3)
