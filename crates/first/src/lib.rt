@@ -75,7 +75,9 @@ pub fn follow(
             at: [0; clock::THREADS],
         };
     }
-    let stamp = clock::advance(clocks, e);
+    // Copied here, so that nothing is copied for an event where the clocks stand still.
+    let taken = e;
+    let stamp = clock::advance(clocks, taken);
     note(last, keys, key, clock::count_of(e.thread, stamp));
     stamp
 }
