@@ -7,7 +7,7 @@ use native.Mathlib.Decide.{decLt}
 use native.Mathlib.Omega.{arith}
 use mathlib.Core.Path.{_≡_, refl, sym, ap, ap₂, subst, _∙_}
 use mathlib.Core.Logic.{inl, inr}
-use mathlib.Core.Bool.{true, false, not}
+use mathlib.Core.Bool.{true, false}
 use mathlib.Core.List.{List, [], _∷_, _++_}
 use lib.Dec.{eqb, ltb}
 use lib.ListN.{length, getD, set, take, drop, replicate, length-set, length-replicate, getD-replicate, drop-of-length-le, List·getD-eq-default}
@@ -92,7 +92,7 @@ module _ {slots : List Slot} {keys : List ℕ} {size : ℕ} (so : SlotsOf slots 
         found = record {
           shaped = record { running = refl; whole = length-replicate {A = ℕ} slotLimit 0; beyond = λ j u. no-numbers j };
           steps = start;
-          joined = λ u. record { whole = length-replicate {A = ℕ} threads 0; counts = λ t v. getD-replicate {A = ℕ} threads t 0 0 v };
+          stamps = λ u. record { whole = length-replicate {A = ℕ} threads 0; counts = λ t v. getD-replicate {A = ℕ} threads t 0 0 v };
           want = λ u. keyed-at so 0 l;
           done = λ z. absurd (let f : ⊥ = omega arith in f);
         };
@@ -112,7 +112,7 @@ module _ {slots : List Slot} {keys : List ℕ} {size : ℕ} (so : SlotsOf slots 
         record {
           shaped = f .shaped;
           steps = chosen-append noEvent dependent threadOf fits es (e ∷ []) (f .steps);
-          joined = λ l. joined-append (e ∷ []) (f .steps) (f .joined l);
+          stamps = λ l. joined-append (e ∷ []) (f .steps) (f .stamps l);
           want = f .want;
           done = f .done;
         }
@@ -142,7 +142,7 @@ module _ {slots : List Slot} {keys : List ℕ} {size : ℕ} (so : SlotsOf slots 
       takes t =
           record {
             shaped = h .found .shaped;
-            joined = joined-append (e ∷ []) (h .found .steps) (h .found .joined l);
+            stamps = joined-append (e ∷ []) (h .found .steps) (h .found .stamps l);
             among = rw (length-snoc es e) (omega arith);
             steps = rw (add-one (length es)) (arrives-takes noEvent dependent threadOf fits es e steps-at stuck-at t);
           }
@@ -176,7 +176,7 @@ module _ {slots : List Slot} {keys : List ℕ} {size : ℕ} (so : SlotsOf slots 
               beyond = beyond-now;
             };
             steps = steps-now;
-            joined = λ u. absurd (let f : ⊥ = omega arith in f);
+            stamps = λ u. absurd (let f : ⊥ = omega arith in f);
             want = λ u. absurd (let f : ⊥ = omega arith in f);
             done = λ z. refl;
           };
@@ -185,10 +185,10 @@ module _ {slots : List Slot} {keys : List ℕ} {size : ℕ} (so : SlotsOf slots 
 
     -- or the next is looked for, the stamp joined
     module _ (stamp : Stamp) (of-n : StampOf es n stamp) where
-      counts-now : (t : ℕ) → t < threads → getD (higherOf (s .joined) stamp .at) t 0 ≡ joinIn es (chosenBy s ++ (n ∷ [])) t
+      counts-now : (t : ℕ) → t < threads → getD (higherOf (s .stamps) stamp .at) t 0 ≡ joinIn es (chosenBy s ++ (n ∷ [])) t
       counts-now t u =
-          heard-from (s .joined) (stamp .at) 0 t (h .joined .whole) u
-          ∙ ap₂ max (h .joined .counts t u) (ap (λ (k : ℕ). getD (stamp .at) k 0) (zero-add t) ∙ sym (stamp-unique noEvent dependent threadOf es n t _ (h .among) (of-n t u)))
+          heard-from (s .stamps) (stamp .at) 0 t (h .stamps .whole) u
+          ∙ ap₂ max (h .stamps .counts t u) (ap (λ (k : ℕ). getD (stamp .at) k 0) (zero-add t) ∙ sym (stamp-unique noEvent dependent threadOf es n t _ (h .among) (of-n t u)))
           ∙ max-turn (joinIn es (chosenBy s) t) (stampOf noEvent dependent threadOf es n t)
           ∙ join-one noEvent dependent threadOf fits es (chosenBy s) n t
         where
@@ -200,8 +200,8 @@ module _ {slots : List Slot} {keys : List ℕ} {size : ℕ} (so : SlotsOf slots 
           record {
             shaped = record { running = sym (running-on (s .found) size); whole = whole-now; beyond = beyond-now };
             steps = steps-now;
-            joined = λ v.
-                record { whole = heard-length (s .joined) (stamp .at) 0 (h .joined .whole); counts = rw chosen-now counts-now };
+            stamps = λ v.
+                record { whole = heard-length (s .stamps) (stamp .at) 0 (h .stamps .whole); counts = rw chosen-now counts-now };
             want = λ v. keyed-at so (s .found + 1) u;
             done = λ z. absurd (let f : ⊥ = omega arith in f);
           }
@@ -213,13 +213,13 @@ module _ {slots : List Slot} {keys : List ℕ} {size : ℕ} (so : SlotsOf slots 
     slot = getD slots (s .found) noSlot
 
     abbrev barred : ℕ
-    barred = countOf (slot .thread) (s .joined)
+    barred = countOf (slot .thread) (s .stamps)
 
     steps-on : ChosenIn ss es (chosenBy s) (slot ∷ drop (suc (s .found)) ss)
     steps-on = subst (ChosenIn ss es (chosenBy s)) (slot-at (s .found) l) (h .steps)
 
     barred-is : barred ≡ joinIn es (chosenBy s) (slot .thread)
-    barred-is = rw (lt-ltb (slot .thread) threads (so .low (s .found) l)) (h .joined l .counts (slot .thread) (so .low (s .found) l))
+    barred-is = rw (lt-ltb (slot .thread) threads (so .low (s .found) l)) (h .stamps l .counts (slot .thread) (so .low (s .found) l))
 
     settled-by : StuckIn es (slot ∷ drop (suc (s .found)) ss) (chosenBy s) → Settled es slots size s
     settled-by d = record { found = h; stuck = subst (λ (left : List Slot). StuckIn es left (chosenBy s)) (sym (slot-at (s .found) l)) d }
@@ -239,7 +239,7 @@ module _ {slots : List Slot} {keys : List ℕ} {size : ℕ} (so : SlotsOf slots 
     returns-to n d (inl f) =
         record {
           shaped = h .shaped;
-          joined = h .joined l;
+          stamps = h .stamps l;
           among = f .0;
           steps = settles-back noEvent dependent threadOf fits one-thread (λ s. s .thread) of-slot es steps-on barred-is f;
         }

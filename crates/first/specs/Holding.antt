@@ -40,7 +40,7 @@ pub record Joined (es : List Event) (cs : List ℕ) (stamp : Stamp) : Type 0 whe
 pub record Underway (es : List Event) (slots : List Slot) (size : ℕ) (s : Search) : Type 0 where
   pub shaped : Shaped size s
   pub steps : ChosenOf noEvent dependent fits (take size slots) es (chosenBy s) (drop (s .found) (take size slots))
-  pub joined : s .found < size → Joined es (chosenBy s) (s .joined)
+  pub stamps : s .found < size → Joined es (chosenBy s) (s .stamps)
   pub want : s .found < size → s .want ≡ slotKey (getD slots (s .found) noSlot)
   pub done : s .found ≡ size → s .want ≡ noKey
 
@@ -52,7 +52,7 @@ pub record Settled (es : List Event) (slots : List Slot) (size : ℕ) (s : Searc
 -- event number n is the next of the choice: it is the first that can fill the slot looked for
 pub record NextIs (es : List Event) (slots : List Slot) (size : ℕ) (s : Search) (n : ℕ) : Type 0 where
   pub shaped : Shaped size s
-  pub joined : Joined es (chosenBy s) (s .joined)
+  pub stamps : Joined es (chosenBy s) (s .stamps)
   pub among : Among (length es) n
   pub steps : ChosenOf noEvent dependent fits (take size slots) es (chosenBy s ++ (n ∷ [])) (drop (suc (s .found)) (take size slots))
 

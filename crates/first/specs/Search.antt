@@ -20,11 +20,11 @@ noKey = 255
 
 -- nothing is found yet
 abbrev pub noneFound : List ℕ → Search
-noneFound keys = record { found = 0; want = getD keys 0 0; running = false; numbers = replicate slotLimit 0; joined = noStamp }
+noneFound keys = record { found = 0; want = getD keys 0 0; running = false; numbers = replicate slotLimit 0; stamps = noStamp }
 
 -- the slot looked for has found event number n, and none is looked for
 abbrev pub filled : Search → ℕ → Search
-filled s n = record { found = s .found + 1; want = noKey; running = false; numbers = set (s .numbers) (s .found) n; joined = s .joined }
+filled s n = record { found = s .found + 1; want = noKey; running = false; numbers = set (s .numbers) (s .found) n; stamps = s .stamps }
 
 -- the stamp of the event found is joined with the others, and the next slot is looked for
 abbrev pub lookingOn : List ℕ → ℕ → Search → Stamp → Search
@@ -34,7 +34,7 @@ lookingOn keys size s stamp =
       want = getD keys (s .found) 0;
       running = ltb (s .found + 1) size;
       numbers = s .numbers;
-      joined = higherOf (s .joined) stamp;
+      stamps = higherOf (s .stamps) stamp;
     }
 
 -- so many slots found, of so many: the clocks run from the first slot found to the last but one

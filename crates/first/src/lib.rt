@@ -27,7 +27,7 @@ pub struct Search {
     pub want: u16,
     pub running: bool,
     pub numbers: [u16; event::SLOTS],
-    pub joined: Stamp,
+    pub stamps: Stamp,
 }
 
 // Nothing is found yet; `keys` are those of the slots.
@@ -39,7 +39,7 @@ pub fn none_found(keys: [u16; event::SLOTS]) -> Search
         want: keys[0],
         running: false,
         numbers: [0; event::SLOTS],
-        joined: Stamp {
+        stamps: Stamp {
             at: [0; clock::THREADS],
         },
     }
@@ -141,9 +141,9 @@ fn settle(
     let mut s = from;
     loop {
         let k = s.found;
-        let joined = s.joined;
+        let stamps = s.stamps;
         let slot = slots[k];
-        let barred = clock::count_of(slot.thread, joined);
+        let barred = clock::count_of(slot.thread, stamps);
         if last[k] <= barred {
             return s;
         }
@@ -170,13 +170,13 @@ fn fill(s: Search, n: usize) -> Search
     let k = s.found;
     let mut numbers = s.numbers;
     numbers[k] = n as u16;
-    let joined = s.joined;
+    let stamps = s.stamps;
     Search {
         found: k + 1,
         want: NO_KEY,
         running: false,
         numbers,
-        joined,
+        stamps,
     }
 }
 
@@ -188,14 +188,14 @@ fn look_on(keys: [u16; event::SLOTS], size: usize, s: Search, stamp: Stamp) -> S
     let k = s.found;
     let want = keys[k];
     let numbers = s.numbers;
-    let before = s.joined;
-    let joined = clock::join(before, stamp);
+    let before = s.stamps;
+    let stamps = clock::join(before, stamp);
     Search {
         found: k,
         want,
         running: k + 1 < size,
         numbers,
-        joined,
+        stamps,
     }
 }
 

@@ -11,7 +11,7 @@ use lib.Seq.{ext-getD}
 use borrow.Author.Tests.{eq-eqb, ne-eqb, leb-true, leb-false}
 use Rattle.event.specs.declared.Event.{Event}
 use Rattle.event.specs.declared.Slot.{Slot}
-use Rattle.event.specs.Limits.{threads, locks, slots, events}
+use Rattle.event.specs.Limits.{threads, locks, events}
 use Rattle.event.specs.Slots.{slotOf, fitting, threadsOf}
 use Rattle.event.proofs.Tests.{by-test}
 use Rattle.event.proofs.InRange.{from-range}

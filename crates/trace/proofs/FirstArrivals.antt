@@ -2,7 +2,6 @@
 -- What it needs of the event that arrives is which slots it fits, and its place and its stamp where slots are left to look for.
 -- Assumes nothing.
 use mathlib.Core.Path.{_≡_, refl, sym, ap, ap₂, subst, _∙_}
-use mathlib.Core.Logic.{inl, inr}
 use mathlib.Core.Bool.{Bool, true, false, not, cond, _&&_, _||_}
 use mathlib.Core.List.{List, [], _∷_, _++_, List·Memᴰ as Mem, List·Memᴰ·head as head, List·Memᴰ·tail as tail}
 use Prim.Native.Nat.{ℕ, suc, _≤_, max}
@@ -11,7 +10,7 @@ use lib.Dec.{eqb, leb}
 use lib.ListN.{length, length-append}
 use borrow.Author.Tests.{eq-eqb}
 use Rattle.trace.specs.Tuples.{eventAt, depAt, fitsAt, threadAt, Among, one-more, tally, place}
-use Rattle.trace.proofs.Lists.{both-ways, any, length-snoc}
+use Rattle.trace.proofs.Lists.{any, length-snoc}
 use Rattle.trace.proofs.Before.{before-same, Agree, agree-back}
 use Rattle.trace.proofs.Tallies.{tally-same, join}
 use Rattle.trace.proofs.Search.{may}

@@ -16,7 +16,6 @@ use Rattle.trace.proofs.Lists.{true-or-false, both-ways, failed, same-t
 use Rattle.trace.proofs.Before.{before, before-true, before-le}
 use Rattle.trace.proofs.Tallies.{tally-longer, join}
 use Rattle.trace.proofs.Search.{may}
-use Rattle.trace.proofs.Counts.{lowest, Lowest, at, nowhere, lowest-is}
 use Rattle.trace.proofs.Stamps.{stamp, before-by-stamp}
 use Rattle.trace.proofs.FirstChoice.{FirstOf, NoneOf, Chosen, start, next}
 

@@ -1,7 +1,7 @@
 -- `plain::found_at` meets its contract.
 use mathlib.Core.Path.{refl}
 use borrow.Author.Tests.{lt-ltb, le-ltb}
-use Rattle.plain.proofs.Answers.{equal, unequal, told}
+use Rattle.plain.proofs.Answers.{equal, unequal}
 use borrow.Author.Needs.{needs}
 use Rattle.plain.specs.Chains.{isAt}
 use Rattle.plain.proofs.found_at.Statement.{statement}

@@ -1,7 +1,6 @@
 -- `plain::linked` meets its contract.
-use mathlib.Core.Path.{refl}
 use borrow.Author.Tests.{lt-ltb, le-ltb}
-use Rattle.plain.proofs.Answers.{equal, unequal, told}
+use Rattle.plain.proofs.Answers.{told}
 use borrow.Author.Needs.{needs}
 use Rattle.plain.specs.Chains.{links}
 use Rattle.plain.proofs.linked.Statement.{statement}

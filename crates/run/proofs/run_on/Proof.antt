@@ -19,7 +19,6 @@ use borrow.Author.Tests.{eq-eqb, ne-eqb, not-true, not-false}
 use borrow.Author.Needs.{needs}
 use Rattle.run.proofs.run_on.Statement.{statement}
 use Rattle.run.proofs.run_on.Tie as tie
-use Rattle.rules.proofs.fresh.Reads as fresh-reads′
 
 abbrev Inv-loop : tie.InvT-loop
 Inv-loop log slots size keys state₀ clocks₀ last₀ s₀ taken₀ at₀ state clocks last s taken at = Running log slots keys size state clocks last s taken at

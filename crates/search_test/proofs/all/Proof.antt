@@ -1,5 +1,5 @@
 -- `search_test::all` is safe and ends. The loop keeps the lengths of what is lent; what falls is the number of logs left.
-use Prim.Native.Nat.{_-_, _≤_, _<_}
+use Prim.Native.Nat.{_-_, _≤_}
 use mathlib.Core.Path.{_≡_}
 use lib.ListN.{length}
 use borrow.Author.Needs.{needs}

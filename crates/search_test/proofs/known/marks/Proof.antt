@@ -1,7 +1,5 @@
 -- `search_test::known::marks` is safe and ends. What falls is the number of events left.
-use Prim.Native.Nat.{_-_, _≤_, _<_}
-use mathlib.Core.Path.{_≡_}
-use lib.ListN.{length}
+use Prim.Native.Nat.{_-_, _≤_}
 use borrow.Author.Needs.{needs}
 use Rattle.search_test.proofs.known.marks.Statement.{statement}
 use Rattle.search_test.proofs.known.marks.Tie as tie

@@ -1,5 +1,5 @@
 -- `vectors_test::spelled::decimal` is safe and ends. What falls is the number of bytes left.
-use Prim.Native.Nat.{_-_, _≤_}
+use Prim.Native.Nat.{_-_}
 use lib.ListN.{length}
 use mathlib.Core.Path.{_≡_}
 use borrow.Author.Needs.{needs}
