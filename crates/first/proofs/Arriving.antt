@@ -20,10 +20,11 @@ use Rattle.event.proofs.SlotNumbers.{fits-key}
 use Rattle.trace.proofs.Lists.{failed, both-ways}
 use Rattle.clock.specs.Clocks.{stampBy, clocksAfter, noStamp}
 use Rattle.first.specs.declared.Search.{Search}
-use Rattle.first.specs.Search.{noKey, fillsNext, lastBy}
-use Rattle.first.specs.Passes.{SlotsOf}
+use Rattle.first.specs.Search.{noKey, fillsNext}
+use Rattle.passes.specs.LastPlaces.{lastBy}
+use Rattle.passes.specs.Passes.{SlotsOf}
 use Rattle.first.specs.Holding.{Settled, NextIs, Following, Newest}
-use Rattle.first.proofs.Noting.{followed-by}
+use Rattle.passes.proofs.Noting.{followed-by}
 use Rattle.first.proofs.Filling.{all-found, passes, takes}
 
 module _ {slots : List Slot} {keys : List ℕ} {size : ℕ} (so : SlotsOf slots keys size) {es : List Event} {s : Search} (h : Settled es slots size s)

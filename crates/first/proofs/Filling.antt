@@ -34,9 +34,9 @@ use Rattle.clock.specs.Arrivals.{StampOf, ClocksOf}
 use Rattle.clock.proofs.Entries.{heard-length, heard-from}
 use Rattle.first.specs.declared.Search.{Search}
 use Rattle.first.specs.Search.{noneFound, filled, lookingOn, isRunning}
-use Rattle.first.specs.Passes.{Leads, SlotsOf, LastsOf, FirstAbove, Stamped}
+use Rattle.passes.specs.Passes.{Leads, SlotsOf, LastsOf, FirstAbove, Stamped}
 use Rattle.first.specs.Holding.{chosenBy, Joined, Underway, Settled, NextIs, Following, Newest}
-use Rattle.first.proofs.Noting.{keyed-at}
+use Rattle.passes.proofs.Noting.{keyed-at}
 
 -- the choice at the events of a log and the slots of a pattern
 abbrev ChosenIn : List Slot → List Event → List ℕ → List Slot → Type 0

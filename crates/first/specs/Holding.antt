@@ -19,7 +19,7 @@ use Rattle.clock.specs.declared.Stamp.{Stamp}
 use Rattle.clock.specs.Arrivals.{StampOf, ClocksOf}
 use Rattle.first.specs.declared.Search.{Search}
 use Rattle.first.specs.Search.{noKey, isRunning}
-use Rattle.first.specs.Passes.{LastsOf}
+use Rattle.passes.specs.Passes.{LastsOf}
 
 -- the events found so far
 abbrev pub chosenBy : Search → List ℕ

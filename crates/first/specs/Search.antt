@@ -1,7 +1,7 @@
 -- What each step makes of a search, for every search.
 -- Assumes nothing.
 use Prim.Native.Nat.{ℕ, _+_}
-use mathlib.Core.Bool.{Bool, false, not, cond, _&&_}
+use mathlib.Core.Bool.{Bool, false, not, _&&_}
 use mathlib.Core.List.{List}
 use lib.Dec.{eqb, ltb}
 use lib.ListN.{getD, set, replicate}
@@ -9,9 +9,8 @@ use Rattle.event.specs.declared.Event.{Event}
 use Rattle.event.specs.declared.Slot.{Slot}
 use Rattle.event.specs.Limits.{slots as slotLimit}
 use Rattle.event.specs.Slots.{fits, noSlot}
-use Rattle.event.specs.Updated.{updated}
 use Rattle.clock.specs.declared.Stamp.{Stamp}
-use Rattle.clock.specs.Clocks.{stampBy, noStamp, higherOf, countOf}
+use Rattle.clock.specs.Clocks.{noStamp, higherOf}
 use Rattle.first.specs.declared.Search.{Search}
 
 -- the key of no slot: it names a thread that no event has
@@ -48,11 +47,3 @@ fillsSlot slots k e = ltb k slotLimit && fits (getD slots k noSlot) e
 -- an event of this key fits the slot looked for
 abbrev pub fillsNext : List Slot → Search → ℕ → Event → Bool
 fillsNext slots s key e = eqb (s .want) key && fillsSlot slots (s .found) e
-
--- the last places, once an event of this key has come, its place p: it stands for each slot that has the key
-abbrev pub noted : ℕ → ℕ → List ℕ → List ℕ → List ℕ
-noted key p keys last = updated 0 (λ j x. cond (eqb (getD keys j 0) key) p x) slotLimit last 0
-
--- the same where the clocks give the event its place
-abbrev pub lastBy : List ℕ → List ℕ → ℕ → Event → List ℕ → List ℕ
-lastBy clocks keys key e last = noted key (countOf (e .thread) (stampBy clocks e)) keys last

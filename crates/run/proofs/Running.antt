@@ -35,8 +35,9 @@ use Rattle.clock.specs.declared.Stamp.{Stamp}
 use Rattle.clock.specs.Clocks.{stampBy, clocksAfter, noStamp}
 use Rattle.clock.specs.Arrivals.{ClocksOf}
 use Rattle.first.specs.declared.Search.{Search}
-use Rattle.first.specs.Search.{noneFound, fillsNext, lastBy}
-use Rattle.first.specs.Passes.{Leads, SlotsOf, LastsOf}
+use Rattle.first.specs.Search.{noneFound, fillsNext}
+use Rattle.passes.specs.LastPlaces.{lastBy}
+use Rattle.passes.specs.Passes.{Leads, SlotsOf, LastsOf}
 use Rattle.first.specs.Holding.{chosenBy, Settled, NextIs, Following, Newest}
 use Rattle.first.proofs.Filling.{no-numbers, ss-length, none-found}
 use Rattle.first.proofs.Arriving.{newest, goes-by, hits}

@@ -1,10 +1,13 @@
 // Runs over a whole log: whether some order of its events holds the pattern, and the first events that show it.
+use event::Event;
+use event::Slot;
 use log::Pattern;
 use log::PatternAnswer;
 use log::Stepped;
 ghost use mathlib.Core.Path.{_≡_};
 ghost use lib.ListN.{replicate, take};
 ghost use Rattle.event.specs.Limits.{slots as slotLimit};
+ghost use Rattle.first.specs.Search.{fillsSlot};
 ghost use Rattle.session.specs.Meaning.{RunOn, RunOf};
 ghost use Rattle.run.specs.Answers.{judgedIs, judgedBy, greatestOf};
 ghost use Rattle.run.specs.Patterns.{Usable};
@@ -63,12 +66,12 @@ fn run_on(p: Pattern, log: &[u8]) -> Judged
         taken += 1;
         let key = command::key_at(log, at);
         at = next;
-        let stamp = first::follow(s.running, &mut clocks, &mut last, keys, key, event);
+        let stamp = passes::follow(s.running, &mut clocks, &mut last, keys, key, event);
         // Where the keys differ the event does not fit the slot looked for, and else the nested match decides.
         if s.want != key {
             continue;
         }
-        if !first::fills(slots, s.found, event) {
+        if !fills(slots, s.found, event) {
             continue;
         }
         s = first::choose(
@@ -83,6 +86,17 @@ fn run_on(p: Pattern, log: &[u8]) -> Judged
             stamp,
         );
     }
+}
+
+// Whether the event fits slot k, counted from 0; there is none from the limit on.
+fn fills(slots: [Slot; event::SLOTS], k: usize, e: Event) -> bool
+    ensures { λ r. ⌜ r ≡ fillsSlot slots k e ⌝ }
+{
+    if k >= event::SLOTS {
+        return false;
+    }
+    let slot = slots[k];
+    event::fit(slot, e)
 }
 
 fn log_refused(number: u8, offset: usize) -> Judged

@@ -3,7 +3,7 @@ use native.Mathlib.Omega.{arith}
 use mathlib.Core.Path.{sym}
 use mathlib.Core.List.{List}
 use Rattle.event.specs.declared.Event.{Event}
-use Rattle.first.specs.Passes.{Leads, SlotsOf, LastsOf}
+use Rattle.passes.specs.Passes.{Leads, SlotsOf, LastsOf}
 use Rattle.first.specs.Holding.{Underway}
 use Rattle.first.proofs.Filling.{none-earlier, none-above, returns-to, fills-last, fills-on}
 use borrow.Author.Needs.{needs}

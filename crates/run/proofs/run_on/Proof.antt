@@ -11,8 +11,8 @@ use Rattle.command.proofs.Inversion.{decode-found}
 use Rattle.log.specs.Step.{steppedIs}
 use Rattle.log.proofs.Steps.{the-end}
 use Rattle.log.proofs.LogWalk.{decoded, room, shorter}
-use Rattle.first.specs.Passes.{SlotsOf}
-use Rattle.first.proofs.Noting.{none-last}
+use Rattle.passes.specs.Passes.{SlotsOf}
+use Rattle.passes.proofs.Noting.{none-last}
 use Rattle.first.proofs.Filling.{no-numbers}
 use Rattle.run.proofs.Running.{Running, started, ended, broke, goes-on, fills-it, chosen-next}
 use borrow.Author.Tests.{eq-eqb, ne-eqb, not-true, not-false}

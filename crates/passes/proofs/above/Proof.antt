@@ -2,10 +2,10 @@ use mathlib.Core.Path.{_≡_, refl, sym, _∙_}
 use mathlib.Core.Bool.{true, false}
 use borrow.Author.Tests.{not-true, not-false}
 use Rattle.event.specs.Slots.{fits}
-use Rattle.first.proofs.Noting.{above-is}
+use Rattle.passes.proofs.Noting.{above-is}
 use borrow.Author.Needs.{needs}
-use Rattle.first.proofs.above.Statement.{statement}
-use Rattle.first.proofs.above.Tie as tie
+use Rattle.passes.proofs.above.Statement.{statement}
+use Rattle.passes.proofs.above.Tie as tie
 
 returns : tie.Need-returns
 returns c = let f : fits (c .before .before .args .slot) (c .before .before .args .e) ≡ false = sym (c .before .fit .ensures) ∙ not-true _ (c .if1 .taken) in rw f refl

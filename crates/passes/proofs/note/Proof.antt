@@ -9,8 +9,8 @@ use lib.Dec.{eqb}
 use lib.ListN.{getD}
 use Rattle.event.specs.Updated.{updated}
 use borrow.Author.Needs.{needs}
-use Rattle.first.proofs.note.Statement.{statement}
-use Rattle.first.proofs.note.Tie as tie
+use Rattle.passes.proofs.note.Statement.{statement}
+use Rattle.passes.proofs.note.Tie as tie
 
 abbrev Inv-loop : tie.InvT-loop
 Inv-loop last₀ key place keys j₀ last j = (j ≤ slotLimit) × (last ≡ updated 0 (λ i x. cond (eqb (getD keys i 0) key) place x) j last₀ 0)

@@ -7,11 +7,11 @@ use Rattle.event.specs.declared.Event.{Event}
 use Rattle.command.specs.Reading.{eventReadIs}
 use Rattle.clock.specs.Arrivals.{ClocksOf}
 use Rattle.log.proofs.Leading.{not-absent}
-use Rattle.first.specs.Passes.{Leads}
-use Rattle.first.proofs.Passes.{Followed, followed, still-ahead, follows, stamped}
+use Rattle.passes.specs.Passes.{Leads}
+use Rattle.passes.proofs.Passes.{Followed, followed, still-ahead, follows, stamped}
 use borrow.Author.Needs.{needs}
-use Rattle.first.proofs.pass.Statement.{statement}
-use Rattle.first.proofs.pass.Tie as tie
+use Rattle.passes.proofs.pass.Statement.{statement}
+use Rattle.passes.proofs.pass.Tie as tie
 
 abbrev Inv-loop : tie.InvT-loop
 Inv-loop log n keys clocks₀ last₀ stamp₀ at₀ i₀ clocks last stamp at i =

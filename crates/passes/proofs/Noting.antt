@@ -32,8 +32,8 @@ use Rattle.clock.specs.declared.Stamp.{Stamp}
 use Rattle.clock.specs.Clocks.{stampBy, clocksAfter, countOf}
 use Rattle.clock.specs.Arrivals.{StampOf, ClocksOf, Arrived}
 use Rattle.clock.proofs.History.{arrived}
-use Rattle.first.specs.Search.{noted, lastBy}
-use Rattle.first.specs.Passes.{SlotsOf, LastsOf}
+use Rattle.passes.specs.LastPlaces.{noted, lastBy}
+use Rattle.passes.specs.Passes.{SlotsOf, LastsOf}
 
 -- above is not at most
 pub above-is : (x y : ℕ) → ltb x y ≡ not (leb y x)

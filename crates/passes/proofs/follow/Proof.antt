@@ -1,8 +1,8 @@
 use mathlib.Core.Path.{refl, _∙_}
 use borrow.Author.Tests.{not-true, not-false}
 use borrow.Author.Needs.{needs}
-use Rattle.first.proofs.follow.Statement.{statement}
-use Rattle.first.proofs.follow.Tie as tie
+use Rattle.passes.proofs.follow.Statement.{statement}
+use Rattle.passes.proofs.follow.Tie as tie
 
 returns : tie.Need-returns
 returns c = rw (not-true (c .before .args .running) (c .if1 .taken)) (refl, (refl, refl))

@@ -32,9 +32,9 @@ use Rattle.clock.specs.Arrivals.{StampOf, ClocksOf}
 use Rattle.clock.proofs.OrderQuery.{count-stays}
 use Rattle.command.specs.Reading.{command, readEvent}
 use Rattle.log.proofs.Leading.{Midway, at-start, past-it, within-limits}
-use Rattle.first.specs.Search.{lastBy}
-use Rattle.first.specs.Passes.{Leads, SlotsOf, LastsOf, fillsAt, FirstAbove, StampedTo}
-use Rattle.first.proofs.Noting.{followed-by}
+use Rattle.passes.specs.LastPlaces.{lastBy}
+use Rattle.passes.specs.Passes.{Leads, SlotsOf, LastsOf, fillsAt, FirstAbove, StampedTo}
+use Rattle.passes.proofs.Noting.{followed-by}
 
 -- how many events of a thread have passed
 abbrev pub seenOf : List Event → ℕ → ℕ

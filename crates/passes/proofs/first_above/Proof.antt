@@ -5,11 +5,11 @@ use mathlib.Core.List.{List}
 use Rattle.event.specs.declared.Event.{Event}
 use Rattle.command.specs.Reading.{eventReadIs}
 use Rattle.log.proofs.Leading.{not-absent}
-use Rattle.first.specs.Passes.{Leads}
-use Rattle.first.proofs.Passes.{Sought, sought, ahead, not-this, this-one, nowhere}
+use Rattle.passes.specs.Passes.{Leads}
+use Rattle.passes.proofs.Passes.{Sought, sought, ahead, not-this, this-one, nowhere}
 use borrow.Author.Needs.{needs}
-use Rattle.first.proofs.first_above.Statement.{statement}
-use Rattle.first.proofs.first_above.Tie as tie
+use Rattle.passes.proofs.first_above.Statement.{statement}
+use Rattle.passes.proofs.first_above.Tie as tie
 
 abbrev Inv-loop : tie.InvT-loop
 Inv-loop log n slot barred place₀ at₀ i₀ place at i = (i ≤ n) × ((es : List Event) → Leads log es n → Sought log es slot barred place at i)

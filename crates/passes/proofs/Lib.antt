@@ -1,0 +1,2 @@
+pub mod Noting
+pub mod Passes
