@@ -76,7 +76,7 @@ pub fn pass(
         let EventRead::Event { event, next } = read else {
             return stamp;
         };
-        let key = event::key_of(event::slot_of(event));
+        let key = slots::key_of(event::slot_of(event));
         stamp = follow(true, clocks, last, keys, key, event);
         at = next;
         i += 1;

@@ -47,7 +47,7 @@ fn run_on(p: Pattern, log: &[u8]) -> Judged
 {
     let slots = p.slots;
     let size = p.size;
-    let keys = event::keys_of(slots);
+    let keys = slots::keys_of(slots);
     let mut state = rules::fresh();
     let mut clocks = clock::fresh();
     let mut last = [0u16; event::SLOTS];

@@ -101,8 +101,8 @@ impl Session {
         let mut table = self.table;
         let mut taken = self.taken;
         let mut count = self.count;
-        let acting = event::threads_of(slots);
-        let fit = event::fitting(slots, e);
+        let acting = slots::threads_of(slots);
+        let fit = slots::fitting(slots, e);
         let number = hand(
             &mut state,
             &mut clocks,
