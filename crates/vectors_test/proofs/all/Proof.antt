@@ -13,13 +13,13 @@ abbrev μ-loop : tie.MeasureT-loop
 μ-loop lines space₀ state₀ head₀ at₀ space state head at = length lines - at
 
 sub-line : tie.Need-sub-line Inv-loop μ-loop
-sub-line c = search (needs, c .find .ensures .1 (search needs))
+sub-line c = search (needs, c .find .ensures .0 .1 (search needs))
 
 part-line-start : tie.Need-part-line-start Inv-loop μ-loop
-part-line-start c = search (needs, c .find .ensures .1 (search needs))
+part-line-start c = search (needs, c .find .ensures .0 .1 (search needs))
 
 loop-less : tie.Need-loop-less Inv-loop μ-loop
-loop-less c = search (needs, c .before .before .before .before .before .before .find .ensures .1 (search needs))
+loop-less c = search (needs, c .before .before .before .before .before .before .find .ensures .0 .1 (search needs))
 
 pub all-spec : {M : Type 1} → statement M
 all-spec =
