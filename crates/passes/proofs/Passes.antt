@@ -138,7 +138,7 @@ module _ {bytes : List ℕ} {es : List Event} {n : ℕ} (ls : Leads bytes es n) 
 
 -- ---- the stamp of an event
 
-stamp-stays : (es later : List Event) (n : ℕ) (s : Stamp) → 0 < n → n ≤ length es → StampOf es n s → StampOf (es ++ later) n s
+pub stamp-stays : (es later : List Event) (n : ℕ) (s : Stamp) → 0 < n → n ≤ length es → StampOf es n s → StampOf (es ++ later) n s
 stamp-stays es later n s p l h t low = count-stays es later n t _ (eventAt noEvent es n) (at-numbered noEvent es n (p, l)) (h t low)
 
 -- i events gone past, which the clocks hold, with the last places; and the stamp of the last of them

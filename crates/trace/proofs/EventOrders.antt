@@ -29,11 +29,11 @@ module _ {E : Type 0} (dep : E → E → Bool) (log : List E) where
 
 -- the events of numbers of the list, and back
 module _ {E : Type 0} (other : E) (log : List E) where
-  numbered-map : (is : List ℕ) → ((i : ℕ) → Mem i is → Among (length log) i) → Each (Numbered log) is (map (eventAt other log) is)
+  pub numbered-map : (is : List ℕ) → ((i : ℕ) → Mem i is → Among (length log) i) → Each (Numbered log) is (map (eventAt other log) is)
   numbered-map [] h = Each.none
   numbered-map (i ∷ is) h = Each.more (at-numbered other log i (h i (head refl))) (numbered-map is (λ j m. h j (tail m)))
 
-  map-numbered : {is : List ℕ} {ys : List E} → Each (Numbered log) is ys → ys ≡ map (eventAt other log) is
+  pub map-numbered : {is : List ℕ} {ys : List E} → Each (Numbered log) is ys → ys ≡ map (eventAt other log) is
   map-numbered Each.none = refl
   map-numbered (Each.more n c) = ap₂ _∷_ (sym (numbered-at other n)) (map-numbered c)
 

@@ -1,21 +1,21 @@
 -- Good tuples: an event for each slot, none of a later slot coming before or being that of an earlier one.
 -- Some order that swaps reach holds the pattern exactly where there is one.
 -- Assumes nothing.
-use mathlib.Core.Path.{_≡_, refl, sym, ap, _∙_}
+use mathlib.Core.Path.{_≡_, refl, sym, _∙_}
 use mathlib.Core.Logic.{_↔_}
 use mathlib.Core.Bool.{Bool, true, false, not, _&&_, and-eq-true-iff, false≢true}
-use mathlib.Core.List.{List, [], _∷_, _++_, List·Memᴰ as Mem, List·Memᴰ·head as head, List·Memᴰ·tail as tail}
-use mathlib.Core.List.{List·Memᴰ·not-nil as not-mem-nil, Sublistᴰ as Sublist, Sublistᴰ·nil-sublist as nil-sublist}
+use mathlib.Core.List.{List, [], _∷_, List·Memᴰ as Mem, List·Memᴰ·head as head, List·Memᴰ·tail as tail}
+use mathlib.Core.List.{List·Memᴰ·not-nil as not-mem-nil}
 use Prim.Native.Nat.{ℕ, _≤_, _<_}
 use lib.Dec.{leb}
 use borrow.Author.Tests.{leb-true, le-leb, not-true}
-use Rattle.trace.specs.Swaps.{Reaches, stay}
 use Rattle.trace.specs.Match.{HasMatch, Each, Pairs}
 use Rattle.trace.specs.Tuples.{Among, Before, same, Apart, Fitting, Good}
-use Rattle.trace.proofs.Lists.{failed, filter, mem-filter, any, any-false, any-none}
-use Rattle.trace.proofs.Rows.{pairs-head, pairs-tail, pairs-map, pairs-filter, each-map}
-use Rattle.trace.proofs.Holds.{sublist-mem, sublist-pairs, sublist-join, holds-pick, holds-of}
-use Rattle.trace.proofs.Swaps.{reaches-trans, reaches-behind, reaches-mem⁻, to-front}
+use Rattle.trace.proofs.Lists.{failed, any, any-false, any-none}
+use Rattle.trace.proofs.Rows.{pairs-head, pairs-tail, pairs-map, each-map}
+use Rattle.trace.proofs.Holds.{sublist-mem, sublist-pairs, holds-pick, holds-of}
+use Rattle.trace.proofs.Swaps.{reaches-mem⁻}
+use Rattle.trace.proofs.Groups.{arrange, arrange-reached, arrange-holds}
 use Rattle.trace.proofs.Runs.{run, among-of, of-among, run-rises}
 use Rattle.trace.proofs.Before.{before-trans, before-one, before, before-true, true-before, before-false}
 use Rattle.trace.proofs.Before.{false-before, Agree, agree-back, before-carry}
@@ -23,31 +23,9 @@ use Rattle.trace.proofs.Orders.{reaches-apart}
 
 module _ (dep : ℕ → ℕ → Bool) where
   -- in a rising row the events that come before e or are it are downward closed
-  downset-clear : (e x y : ℕ) → x < y → before dep x e ≡ false → before dep y e ≡ true → dep x y ≡ false
+  pub downset-clear : (e x y : ℕ) → x < y → before dep x e ≡ false → before dep y e ≡ true → dep x y ≡ false
   downset-clear e x y l f t =
       failed (dep x y) (λ d. before-false dep f (before-trans dep (before-one dep l d) (before-true dep y e t)))
-
-  -- what comes before the first of es or is it; of the rest, what comes before the second or is it; and so on; then the rest;
-  -- each group as it stood
-  abbrev pub arrange : List ℕ → List ℕ → List ℕ
-  arrange [] xs = xs
-  arrange (e ∷ es) xs = filter (λ x. before dep x e) xs ++ arrange es (filter (λ x. not (before dep x e)) xs)
-
-  pub arrange-reached : (es xs : List ℕ) → Pairs (λ x y. x < y) xs → Reaches dep xs (arrange es xs)
-  arrange-reached [] xs p = stay
-  arrange-reached (e ∷ es) xs p =
-      reaches-trans dep
-      (to-front dep (λ x. before dep x e) (pairs-map (λ x y m k. downset-clear e x y) p))
-      (reaches-behind dep (filter (λ x. before dep x e) xs)
-      (arrange-reached es (filter (λ x. not (before dep x e)) xs) (pairs-filter (λ x. not (before dep x e)) p)))
-
-  pub arrange-holds : (es xs : List ℕ) → Apart dep es → ((e : ℕ) → Mem e es → Mem e xs) → Sublist es (arrange es xs)
-  arrange-holds [] xs a i = nil-sublist xs
-  arrange-holds (e ∷ es) xs a i =
-      sublist-join (filter (λ x. before dep x e) xs)
-      (mem-filter (λ x. before dep x e) xs (i e (head refl)) (true-before dep (same {i = e})))
-      (arrange-holds es (filter (λ x. not (before dep x e)) xs) (pairs-tail a)
-      (λ z m. mem-filter (λ x. not (before dep x e)) xs (i z (tail m)) (ap not (false-before dep (pairs-head a z m)))))
 
   -- that none of a row comes before e or is it, as a test
   pub none-before : (e : ℕ) (es : List ℕ) → any (λ x. before dep x e) es ≡ false → (x : ℕ) → Mem x es → ¬ Before dep x e
@@ -74,9 +52,11 @@ module _ (dep : ℕ → ℕ → Bool) where
 
         back : (es : List ℕ) × Good dep fits ss n es → HasMatch dep fits ss (run 1 n)
         back h = (
-          arrange (h .0) (run 1 n),
-          arrange-reached (h .0) (run 1 n) (run-rises 1 n),
-          holds-of fits (arrange-holds (h .0) (run 1 n) (h .1 .apart) (λ e m. of-among n (h .1 .among e m))) (h .1 .fit),
+          arrange (before dep) (h .0) (run 1 n),
+          arrange-reached (before dep) dep (h .0) (pairs-map (λ x y m k l e. downset-clear e x y l) (run-rises 1 n)),
+          holds-of fits
+              (arrange-holds (before dep) (run 1 n) (pairs-map (λ x y m k. false-before dep) (h .1 .apart))
+              (λ e m. (of-among n (h .1 .among e m), true-before dep same))) (h .1 .fit),
         )
 
     -- good tuples are built slot by slot

@@ -7,6 +7,7 @@ pub mod Holds
 pub mod Runs
 -- swaps, what comes before what, and the orders reached
 pub mod Swaps
+pub mod Groups
 pub mod Before
 pub mod Orders
 pub mod GoodTuples

@@ -105,7 +105,7 @@ module _ {E : Type 0} (dep : E → E → Bool) where
       ComesBefore.chain (comes-shrink log later u b) l (numbered-shrink log later u m) (numbered-shrink log later h n) d
 
 module _ {E : Type 0} (other : E) (dep : E → E → Bool) (log : List E) where
-  comes-among : {i j : ℕ} → ComesBefore dep log i j → Among (length log) i × Among (length log) j
+  pub comes-among : {i j : ℕ} → ComesBefore dep log i j → Among (length log) i × Among (length log) j
   comes-among (ComesBefore.same n) = (numbered-among n, numbered-among n)
   comes-among (ComesBefore.chain b l m n d) = (comes-among b .0, numbered-among n)
 

@@ -1,0 +1,13 @@
+use borrow.Author.Tests.{lt-ltb, le-ltb}
+use borrow.Author.Needs.{needs}
+use Rattle.replay_order.proofs.lies_between.Statement.{statement}
+use Rattle.replay_order.proofs.lies_between.Tie as tie
+
+returns : tie.Need-returns
+returns c = rw (le-ltb _ _ (c .if1 .taken))
+
+returns-2 : tie.Need-returns-2
+returns-2 c = rw (lt-ltb _ _ (c .if1 .left))
+
+pub lies-between-spec : {M : Type 1} → statement M
+lies-between-spec = tie.close (tie.spec returns returns-2)
