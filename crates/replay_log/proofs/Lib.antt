@@ -1,0 +1,3 @@
+-- Replay logs show the pattern; the call's answer by what the run said.
+pub mod Showing
+pub mod Calling
