@@ -112,6 +112,13 @@ module _ (log : List Event) where
             events = numbered-map noEvent log (replayed is) (λ i m. among-of (length log) (perm-mem (perm-sym (reaches-perm dep (replayed-reached is))) m));
           })
 
+-- there is one, for any event numbers, and no other
+pub replay-is : (log : List Event) (is : List ℕ) → IsReplay log is (replay log is)
+replay-is log is = replay-iff log is (replay log is) .1 refl
+
+pub one-replay : (log : List Event) (is : List ℕ) {a b : List Event} → IsReplay log is a → IsReplay log is b → a ≡ b
+one-replay log is {a} {b} r s = replay-iff log is a .0 r ∙ sym (replay-iff log is b .0 s)
+
 -- ---- what it is
 
 -- "The outcome is reachable by swaps": for any event numbers
