@@ -1,2 +1,3 @@
--- What the listing of two files is, whatever the system reads of them.
+-- What the listing of two files is, whatever the system reads of them, and how names of files are put together.
 pub mod Listed
+pub mod Paths

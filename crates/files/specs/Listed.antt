@@ -1,7 +1,10 @@
 -- The listing of two files. No contract can say which bytes the system reads of a file.
 use Prim.Native.Nat.{ℕ}
+use mathlib.Core.Path.{_≡_}
 use mathlib.Core.List.{List}
+use Rattle.io.specs.Counts.{Counts}
 use Rattle.writer.specs.declared.Written.{Written}
+use Rattle.writer.specs.declared.Written.the-variants.{Next}
 use Rattle.listing_text.specs.Listing.{ListedIn}
 
 -- the buffer before and after, and the answer: they are those of the listing of some pattern and some log
@@ -9,3 +12,7 @@ pub record SomeListing (before after : List ℕ) (r : Written) : Type 0 where
   pub pattern : List ℕ
   pub log : List ℕ
   pub listed : ListedIn pattern log before after r
+
+-- what was written at the start of a page lies within it
+abbrev pub InPage : Written → List ℕ → Type 0
+InPage r page = (at : ℕ) → r ≡ Next at → Counts at page

@@ -1,9 +1,20 @@
-// Files by their names, and the listing of a folder's two files, for the programs. What the system reads is assumed and not proved.
+// Files by their names, for the programs: a folder's two files read and listed, a text printed, a file written whole.
+// What the system reads and writes is assumed and not proved.
 use writer::Written;
+ghost use Prim.Native.Nat.{ℕ, _≤_};
 ghost use mathlib.Core.Path.{_≡_};
 ghost use mathlib.Core.Bool.{false};
+ghost use lib.ListN.{length};
+ghost use lib.IntN.{pos};
 ghost use Rattle.io.specs.Counts.{Counts};
-ghost use Rattle.files.specs.Listed.{SomeListing};
+ghost use Rattle.files.specs.Listed.{SomeListing, InPage};
+ghost use Rattle.files.specs.Paths.{Appended, SpareName};
+
+// How many bytes of a folder's two files were read.
+pub struct Sizes {
+    pub pattern: usize,
+    pub log: usize,
+}
 
 // Writes the listing of a folder's pattern.bin and log.bin at the start of a lent buffer.
 pub fn list(folder: &[u8], buffer: &mut [u8]) -> Written
@@ -11,9 +22,19 @@ pub fn list(folder: &[u8], buffer: &mut [u8]) -> Written
 {
     let mut pattern = [0u8; listing_text::SPACE];
     let mut log = [0u8; listing_text::SPACE];
-    let p = read(folder, b"/pattern.bin", &mut pattern);
-    let l = read(folder, b"/log.bin", &mut log);
+    let sizes = read_both(folder, &mut pattern, &mut log);
+    let p = sizes.pattern;
+    let l = sizes.log;
     listing_text::write(&pattern[..p], &log[..l], buffer)
+}
+
+// Reads a folder's pattern.bin and log.bin, each into its own space.
+pub fn read_both(folder: &[u8], pattern: &mut [u8], log: &mut [u8]) -> Sizes
+    ensures { λ r. ⌜ Counts (r .pattern) (now (pattern .exit)) × Counts (r .log) (now (log .exit)) ⌝ }
+{
+    let p = read(folder, b"/pattern.bin", pattern);
+    let l = read(folder, b"/log.bin", log);
+    Sizes { pattern: p, log: l }
 }
 
 // Reads a folder's file to its end, or until the space is full, and answers how many bytes it put at the start of the space.
@@ -24,8 +45,7 @@ pub fn read(folder: &[u8], name: &[u8], space: &mut [u8]) -> usize
     let mut path = io::buffer();
     let start = append(&mut path, 0, folder);
     let end = append(&mut path, start, name);
-    let size = within(end, &path);
-    let fd = os::open_read(&path[..size]);
+    let fd = os::open_read(&path[..end]);
     read_opened(0 <= fd, fd, space)
 }
 
@@ -40,29 +60,92 @@ fn read_opened(opened: bool, fd: i32, space: &mut [u8]) -> usize
     n
 }
 
-// Puts the bytes at a place of the path, as far as there is room, and answers the place after them.
-fn append(path: &mut [u8], from: usize, bytes: &[u8]) -> usize {
-    let mut at = from;
-    for i in 0..bytes.len() {
-        at = put_byte(path, at, bytes[i]);
-    }
-    at
+// Makes the file of this name anew, or replaces it whole, and answers whether it did. Where it did not, what had the name still has it,
+// and errno says why. The bytes go into a spare file beside it, which takes the name once it has all of them, and else is removed.
+pub fn save(name: &[u8], bytes: &[u8]) -> bool {
+    let mut path = io::buffer();
+    let size = spare_name(name, process_number(libc::getpid()), &mut path);
+    let fd = os::create(&path[..size]);
+    save_made(0 <= fd, fd, &path[..size], name, bytes)
 }
 
-fn put_byte(path: &mut [u8], at: usize, b: u8) -> usize {
-    if at < path.len() {
-        path[at] = b;
-        return at + 1;
-    }
-    at
-}
-
-// A place in the path, 0 for one outside it.
-fn within(at: usize, path: &[u8]) -> usize
-    ensures { λ r. ⌜ Counts r (now (path .entry)) ⌝ }
+// As `save`, by a spare file that was made or was not. One that was not made is not removed: its name may be another program's file.
+fn save_made(made: bool, fd: i32, spare: &[u8], name: &[u8], bytes: &[u8]) -> bool
+    ensures { λ r. ⌜ (made ≡ false → r ≡ false) ⌝ }
 {
-    if at < path.len() {
-        return at;
+    if !made {
+        return false;
+    }
+    let saved = fill(fd, bytes) && os::rename(spare, name) == 0;
+    if !saved {
+        // It leaves errno alone where it succeeds, so that errno still says why nothing was saved.
+        os::unlink(spare);
+    }
+    saved
+}
+
+// Writes all the bytes to an open file and closes it. That a disk is full may show at the close alone.
+fn fill(fd: i32, bytes: &[u8]) -> bool {
+    let whole = io::write_all(fd, bytes);
+    let closed = libc::close(fd) == 0;
+    whole && closed
+}
+
+// Puts the name of a spare file at the start of a path, and answers its length: the file's own name, a dot and the process's number,
+// which no other running program has.
+fn spare_name(name: &[u8], process: u64, path: &mut [u8]) -> usize
+    ensures { λ r. ⌜ SpareName (now (name .entry)) process (now (path .exit)) r ⌝ }
+{
+    let mut figures = [0u8; 20];
+    let n = io::decimal(process, &mut figures);
+    let dot = append(path, 0, name);
+    let number = append(path, dot, b".");
+    append(path, number, &figures[..n])
+}
+
+// The number of a process; none is below 0.
+fn process_number(pid: i32) -> u64
+    ensures { λ r. ⌜ ((n : ℕ) → pid ≡ pos n → r ≡ n) ⌝ }
+{
+    if 0 <= pid {
+        return pid as u64;
     }
     0
+}
+
+// Puts bytes at a place of a path and answers the place after them. Where they don't fit it answers the path's length: `os` refuses a
+// path of 4,096 bytes, where one that is cut short would name another file.
+fn append(path: &mut [u8], from: usize, bytes: &[u8]) -> usize
+    requires { ⌜ from ≤ length (now path) ⌝ }
+    ensures { λ r. ⌜ Appended (now (path .entry)) from (now (bytes .entry)) (now (path .exit)) r ⌝ }
+{
+    let written = writer::put(path, from, bytes, bytes.len());
+    match written {
+        Written::Next { at } => at,
+        Written::Refused {
+            number: _,
+            offset: _,
+        } => path.len(),
+    }
+}
+
+// Prints what was written at the start of a page, under the name of the program.
+pub fn print_written(program: &[u8], page: &[u8], written: Written)
+    requires { ⌜ InPage written (now page) ⌝ }
+{
+    match written {
+        Written::Next { at } => print(program, &page[..at]),
+        // A page holds every listing.
+        Written::Refused {
+            number: _,
+            offset: _,
+        } => os::fail(program),
+    }
+}
+
+// Prints a text. Where it can't, the program's name and the reason go to standard error.
+pub fn print(program: &[u8], text: &[u8]) {
+    if !io::write_all(1, text) {
+        os::fail(program);
+    }
 }

@@ -1,0 +1,4 @@
+pub mod Flags
+pub mod Pages
+pub mod Paths
+pub mod Processes
