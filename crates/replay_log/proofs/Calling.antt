@@ -6,7 +6,7 @@ use mathlib.Core.Path.{_≡_, refl, sym, ap, subst, _∙_}
 use mathlib.Core.Bool.{Bool, true, false, cond, false≢true}
 use mathlib.Core.List.{List, [], _∷_, _++_, List·Memᴰ as Mem, List·Memᴰ·head as head, List·Memᴰ·tail as tail}
 use lib.Dec.{ltb}
-use lib.ListN.{length, getD, take, drop}
+use lib.ListN.{length, getD, take, drop, length-append}
 use lib.Seq.{getD-take}
 use types.Run.{OneOf, miss}
 use denote.Enum.Declared.{tagOf}
@@ -141,3 +141,12 @@ module _ (pattern bytes buffer : List ℕ) (o : Outcome) (numbers : List ℕ) (n
       let long-is = w .bytes in
       let after-is : after ≡ logBytes (w .order) ++ drop (length (logBytes (w .order))) buffer = w .is ∙ ap (λ (k : ℕ). logBytes (w .order) ++ drop k buffer) (zero-add (length (logBytes (w .order)))) in
       rw (e, long-is, after-is) (ReplayOf.shown said refl l refl (p .slots-are) (p .events-are) (w .replay))
+
+-- ---- what was written lies within the buffer
+
+pub replay-within : {pattern bytes buffer after : List ℕ} {g : Given} {long : ℕ} → ReplayOf pattern bytes buffer g long after → long ≤ length after
+replay-within (ReplayOf.refused run z) = omega arith
+replay-within (ReplayOf.too-short run z l) = omega arith
+replay-within (ReplayOf.none run z l f) = omega arith
+replay-within {buffer = buffer} (ReplayOf.shown {order = order} run z l t p q r) =
+    let h = length-append (logBytes order) (drop (length (logBytes order)) buffer) in omega arith

@@ -1,15 +1,16 @@
 -- `replay::save` is safe and ends: what was written of the replay lies within the buffer.
 use mathlib.Core.Path.{sym}
 use lib.Seq.{length-take-le}
+use Rattle.replay_log.proofs.Calling.{replay-within}
 use borrow.Author.Needs.{needs}
 use Rattle.replay.proofs.save.Statement.{statement}
 use Rattle.replay.proofs.save.Tie as tie
 
 array-share-prefix-buffer : tie.Need-array-share-prefix-buffer
-array-share-prefix-buffer c = c .before .before .before .before .before .write .ensures
+array-share-prefix-buffer c = replay-within (c .before .before .before .before .before .write .ensures)
 
 slice-aggregate-save-2 : tie.Need-slice-aggregate-save-2
-slice-aggregate-save-2 c = sym (length-take-le _ _ (c .before .before .before .before .before .before .write .ensures))
+slice-aggregate-save-2 c = sym (length-take-le _ _ (replay-within (c .before .before .before .before .before .before .write .ensures)))
 
 pub save-spec : {M : Type 1} → statement M
 save-spec =
