@@ -22,6 +22,7 @@ struct Totals {
     handed: usize,
     verdicts: usize,
     queries: usize,
+    replays: usize,
 }
 
 /// Whether one event, counted from 0, comes before another or is it.
@@ -109,6 +110,24 @@ fn expected(pattern: &[u8], log: &[u8]) -> Expected {
     Expected { judged, log: list, before }
 }
 
+/// The replay log of what is answered; nothing without a match.
+fn replay_of(log: &[u8], e: &Expected) -> Vec<u8> {
+    let Outcome::Match { .. } = e.judged.outcome else {
+        return Vec::new();
+    };
+    let mut commands = Vec::new();
+    let mut at = 0;
+    while let Ok(Some((_, next))) = reference::command(log, at, true) {
+        commands.push(&log[at..next]);
+        at = next;
+    }
+    let chosen: Vec<usize> = e.judged.numbers.iter().filter(|&&n| n != 0).map(|&n| n as usize - 1).collect();
+    let order = reference::replayed(commands.len(), &chosen, &e.before);
+    let mut bytes: Vec<u8> = order.iter().flat_map(|&i| commands[i]).copied().collect();
+    bytes.push(0);
+    bytes
+}
+
 /// What the floor answers where the whole checker answers this: it knows no pattern.
 fn without_pattern(log: &[u8]) -> Outcome {
     match reference::read_log(log) {
@@ -139,6 +158,25 @@ impl Totals {
             assert_eq!(got, wanted, "({name}): {pattern:02x?} {log:02x?}");
         }
         self.hold_order(log, &e);
+        self.hold_replay(pattern, log, &e);
+    }
+
+    /// The replay into a buffer with a byte more than the log, with as many, and with one fewer; what it does not write stays as it was.
+    fn hold_replay(&mut self, pattern: &[u8], log: &[u8], e: &Expected) {
+        let wanted = replay_of(log, e);
+        for size in [log.len() + 1, log.len(), log.len().saturating_sub(1)] {
+            let mut buffer = vec![0xAA; size];
+            let answer = ffi::replay(pattern, log, &mut buffer);
+            let passed = matches!(e.judged.outcome, Outcome::Match { .. } | Outcome::None);
+            let short = passed && size < log.len();
+            let outcome = Outcome::LogRefused(Refusal { number: 15, offset: 0 });
+            let judged = if short { Judged { outcome, numbers: [0; SLOTS] } } else { e.judged };
+            let written = if short { &[] } else { &wanted[..] };
+            assert_eq!(answer, (judged, written.len()), "replay: {pattern:02x?} {log:02x?}");
+            let rest = vec![0xAA; size - written.len()];
+            assert_eq!(buffer, [written, &rest].concat(), "replay: {pattern:02x?} {log:02x?}");
+        }
+        self.replays += usize::from(!wanted.is_empty());
     }
 
     /// A few order queries of an accepted log, one of them past its end.
@@ -383,9 +421,9 @@ pub fn all() {
     damaged(&mut totals, &mut steps);
     patterns(&mut totals, &mut steps);
     whole(&mut totals);
-    let Totals { inputs, matches, nones, refused, handed, verdicts, queries } = totals;
+    let Totals { inputs, matches, nones, refused, handed, verdicts, queries, replays } = totals;
     let numbers: Vec<String> = (1..15).map(|k| format!("{k}: {}", refused[k])).collect();
     println!("Agreement: {inputs} inputs, (a) to (e) each as the independent implementation says: {matches} match, {nones} none,");
     println!("{} refused (by number, {}). (a) and (e) name the first list each time.", refused.iter().sum::<usize>(), numbers.join(", "));
-    println!("Sessions: {handed} events handed over, {verdicts} verdicts looked at; {queries} order queries.\n");
+    println!("Sessions: {handed} events handed over, {verdicts} verdicts looked at; {queries} order queries. {replays} replays, byte by byte.\n");
 }

@@ -11,6 +11,12 @@ struct Judgement {
 }
 
 #[repr(C)]
+struct Replayed {
+    judgement: Judgement,
+    length: usize,
+}
+
+#[repr(C)]
 struct Ordering {
     kind: u8,
     number: u8,
@@ -48,6 +54,14 @@ const _: () = assert!(size_of::<Session>() == 2484 && size_of::<Opening>() == 25
 
 extern "C" {
     fn bilguzor_run(pattern: *const u8, pattern_size: usize, log: *const u8, log_size: usize) -> Judgement;
+    fn bilguzor_replay(
+        pattern: *const u8,
+        pattern_size: usize,
+        log: *const u8,
+        log_size: usize,
+        buffer: *mut u8,
+        buffer_size: usize,
+    ) -> Replayed;
     fn bilguzor_order(log: *const u8, log_size: usize, first: usize, second: usize) -> Ordering;
     fn bilguzor_open(pattern: *const u8, pattern_size: usize) -> Opening;
     fn bilguzor_take(
@@ -80,6 +94,15 @@ fn judged(j: Judgement) -> Judged {
 pub fn run(pattern: &[u8], log: &[u8]) -> Judged {
     // Safe: both slices are lent for the call with their lengths, and the library only reads them.
     judged(unsafe { bilguzor_run(pattern.as_ptr(), pattern.len(), log.as_ptr(), log.len()) })
+}
+
+/// A run over a whole log and, with a match, the log that shows it at the start of the buffer: how many bytes it has.
+pub fn replay(pattern: &[u8], log: &[u8], buffer: &mut [u8]) -> (Judged, usize) {
+    // Safe: the slices are lent for the call with their lengths, and the library writes to the buffer alone.
+    let replayed = unsafe {
+        bilguzor_replay(pattern.as_ptr(), pattern.len(), log.as_ptr(), log.len(), buffer.as_mut_ptr(), buffer.len())
+    };
+    (judged(replayed.judgement), replayed.length)
 }
 
 /// Whether event `first` of the log comes before event `second` or is it.

@@ -1,8 +1,8 @@
 // Compares the proved run with a port of PATTERNTRACK, with decoding alone, with a session and with its own algorithm in unproved Rust, on
 // the same inputs in one process.
 //
-// With no word: agreement, the table, the goals, the plot (to the file that BENCH_PLOT names, else growth.svg).
-// `agree`: agreement alone. `once WHO LOAD SLOTS ENDING`: one call, for a tool that counts instructions.
+// With no word: agreement, the table, the goals, replays beside runs, the plot (to the file that BENCH_PLOT names, else growth.svg).
+// `agree`: agreement alone. `replay`: replays beside runs alone. `once WHO LOAD SLOTS ENDING`: one call, for a tool that counts instructions.
 mod agree;
 mod clocks;
 mod contest;
@@ -14,6 +14,7 @@ mod load;
 mod patterntrack;
 mod plot;
 mod reference;
+mod replay;
 mod time;
 mod verdict;
 
@@ -38,6 +39,7 @@ fn table() {
     let rows = time::rows();
     time::print(&rows);
     goals::print(&rows);
+    replay::print();
     let file = std::env::var("BENCH_PLOT").unwrap_or("growth.svg".into());
     std::fs::write(&file, plot::growth()).expect("the plot can't be written");
     println!("\nThe plot is in {file}.");
@@ -48,6 +50,7 @@ fn main() {
     match words.first().map(String::as_str) {
         Some("once") => once(&words[1..]),
         Some("agree") => agree::all(),
+        Some("replay") => replay::print(),
         _ => {
             agree::all();
             table();

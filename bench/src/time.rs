@@ -26,7 +26,7 @@ extern "C" {
 }
 
 /// The processor time of this thread in ns: what passes while other work has the processor does not count.
-fn thread_time() -> i64 {
+pub fn thread_time() -> i64 {
     let mut time = TimeSpec { seconds: 0, nanoseconds: 0 };
     // Safe: the C library writes one struct of this layout.
     let status = unsafe { clock_gettime(THREAD_TIME, &mut time) };
