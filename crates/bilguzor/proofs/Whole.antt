@@ -1,11 +1,12 @@
--- Demand 3 for the exported functions: every list of events in numbers, every order reached from the events taken, and every run.
+-- Demand 3 for the exported functions: every list of events in numbers, every order reached from the events taken, and every run. What every replay shows.
 use Prim.Native.Nat.{ℕ, _≤_}
 use native.Mathlib.Omega.{arith}
 use mathlib.Core.Path.{_≡_, refl, sym, ap, ap₂, _∙_}
 use mathlib.Core.Logic.{_↔_}
 use mathlib.Core.Bool.{Bool, false}
 use mathlib.Core.List.{List, [], _∷_, _++_, reverse, map, append-assoc, append-nil, reverse-cons, reverse-append, reverse-reverse}
-use lib.ListN.{length, replicate}
+use lib.ListN.{length, drop, replicate}
+use lib.Seq.{take-append-seam}
 use borrow.Author.Tests.{eq-eqb}
 use Rattle.event.specs.declared.Operation.{Operation}
 use Rattle.event.specs.declared.Operation.the-variants.{Read, Write, Acquire, Release, Fork, Join, Mark}
@@ -15,7 +16,7 @@ use Rattle.event.specs.Slots.{byteOf, objectOf, withoutHeight}
 use Rattle.rules.specs.Accepted.{refusalAfter, takenAfter, AcceptedAfter, one-more, Accepted}
 use Rattle.command.specs.Bytes.{Bytes}
 use Rattle.command.specs.Reading.{operationOf}
-use Rattle.session.specs.Answers.{Refused, nothing}
+use Rattle.session.specs.Answers.{Refused, nothing, Given}
 use Rattle.session.specs.History as session
 use Rattle.session.proofs.Demand.{same-verdict, run-over, every-run as run-demand}
 use Rattle.dependence.specs.Order.{HasMatch}
@@ -23,11 +24,14 @@ use Rattle.dependence.proofs.Reached.{order-reached}
 use Rattle.log.specs.Whole.{logBytes, readPattern}
 use Rattle.log.proofs.LogRoundTrip.{log-read}
 use Rattle.session.specs.Model.{slotsUsed}
+use Rattle.replay_log.specs.Replay.{ReplayOf, refused, too-short, none, shown}
+use Rattle.replay_log.proofs.Showing.{verdict-shows}
 use Rattle.bilguzor.specs.declared.Judgement.{Judgement}
 use Rattle.bilguzor.specs.declared.Parts.{Parts}
-use Rattle.bilguzor.specs.Numbers.{kindOf, RunNumbers}
+use Rattle.bilguzor.specs.declared.Replayed.{Replayed}
+use Rattle.bilguzor.specs.Numbers.{kindOf, RunNumbers, ReplayNumbers}
 use Rattle.bilguzor.specs.Sessions.{InParts, openedParts, Numbers, noOperation, eventFrom, partsAfter, refusalOf, takenWith}
-use Rattle.bilguzor.specs.History.{partsAll, answersAll, takenAll, refusalsAll, heightIn, inNumbers, SameAnswer, EveryHistory, EveryRun}
+use Rattle.bilguzor.specs.History.{partsAll, answersAll, takenAll, refusalsAll, heightIn, inNumbers, SameAnswer, EveryHistory, EveryRun, EveryReplay}
 use Rattle.bilguzor.proofs.Handing.{one-event, opened-in, said}
 
 -- ---- every list of events
@@ -140,3 +144,28 @@ every-run pattern log b r h l =
 
     one : session.EveryRun pattern log (h .given)
     one = run-demand pattern log b (h .given) (h .run) free
+
+-- ---- every replay
+
+-- a replay that says match has written a log that shows it
+pub every-replay : (pattern log before : List ℕ) → Bytes log → (r : Replayed) (after : List ℕ) → ReplayNumbers pattern log before r after
+    → r .judgement .kind ≡ 1 → EveryReplay pattern log (r .length) after
+every-replay pattern log before b r after h is = go (h .replay) (sym (ap (λ x. x .kind) (h .numbers)) ∙ is)
+  where
+    go : {g : Given} {n : ℕ} {after : List ℕ} → ReplayOf pattern log before g n after → kindOf (g .refused) (g .ruling .matches) ≡ 1 → EveryReplay pattern log n after
+    go {g} (refused run d) k = absurd (d (low-kind (g .refused) (g .ruling .matches) (omega arith)))
+    go (too-short run q l) k = absurd (let f : ⊥ = omega arith in f)
+    go (none run q l m) k = let z = rw (q, m) at k in absurd (let f : ⊥ = omega arith in f)
+    go {g} (shown {ss = ss} {es = es} {order = order} run q l m p e i) k =
+        let seam = take-append-seam (logBytes order) (drop (length (logBytes order)) before) in
+        let v = run-over ss es pattern log p e g run in
+        let s = verdict-shows pattern ss p log b es e (g .ruling) (v .1) m (logBytes order) (record { order = order; replay = i; bytes = refl }) in
+        record {
+          slots = ss;
+          events = es;
+          slots-are = p;
+          reads = e;
+          as-long = s .as-long;
+          shows = rw seam s;
+          again = λ j o. let w = s .again (o .given) (rw seam at (o .run)) in ap (λ x. x .kind) (o .numbers) ∙ ap₂ kindOf (w .0) (w .1);
+        }

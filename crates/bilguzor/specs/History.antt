@@ -1,12 +1,14 @@
 -- Demand 3 for sessions in parts and for exported runs: what is so for every list of events in numbers, the whole list and not each call.
+-- Beside it, what every exported replay shows.
 use Prim.Native.Nat.{ℕ}
 use mathlib.Core.Path.{_≡_}
 use mathlib.Core.List.{List, [], _∷_, reverse, map}
 use lib.IntN.{ℤ, pos}
-use lib.ListN.{length, replicate}
+use lib.ListN.{length, replicate, take}
 use Rattle.event.specs.declared.Operation.{Operation}
 use Rattle.event.specs.declared.Operation.the-variants.{Read, Write, Acquire, Release, Fork, Join, Mark}
 use Rattle.event.specs.declared.Event.{Event}
+use Rattle.event.specs.declared.Slot.{Slot}
 use Rattle.event.specs.Slots.{byteOf, objectOf, withoutHeight}
 use Rattle.rules.specs.Accepted.{Accepted}
 use Rattle.log.specs.Whole.{Heights, accepted, logBytes, readLog, readPattern}
@@ -14,6 +16,7 @@ use Rattle.dependence.specs.Order.{Reaches}
 use Rattle.session.specs.Answers.{nothing}
 use Rattle.session.specs.Model.{slotsUsed}
 use Rattle.session.specs.Meaning.{VerdictOf}
+use Rattle.replay_log.specs.Shows.{Shows}
 use Rattle.bilguzor.specs.declared.Judgement.{Judgement}
 use Rattle.bilguzor.specs.declared.Parts.{Parts}
 use Rattle.bilguzor.specs.Numbers.{kindOf, RunNumbers}
@@ -75,3 +78,14 @@ pub record EveryRun (pattern log : List ℕ) (r : Judgement) : Type 0 where
   pub events : List Event
   pub reads : readLog log ≡ accepted events
   pub orders : (order : List Event) → Reaches events order → (s : Judgement) → RunNumbers pattern (logBytes order) s → s .kind ≡ r .kind
+
+-- what is so where a replay says match and gives the length n: the first n bytes of the buffer afterwards are a log that shows the pattern, and a run
+-- over them with the same pattern says match
+pub record EveryReplay (pattern log : List ℕ) (n : ℕ) (after : List ℕ) : Type 0 where
+  pub slots : List Slot
+  pub events : List Event
+  pub slots-are : readPattern pattern ≡ accepted slots
+  pub reads : readLog log ≡ accepted events
+  pub as-long : n ≡ length log
+  pub shows : Shows pattern slots events log (take n after)
+  pub again : (s : Judgement) → RunNumbers pattern (take n after) s → s .kind ≡ 1

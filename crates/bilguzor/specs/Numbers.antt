@@ -1,4 +1,4 @@
--- The numbers that a run and an order query answer.
+-- The numbers that a run, a replay and an order query answer.
 use Prim.Native.Nat.{ℕ}
 use mathlib.Core.Path.{_≡_}
 use mathlib.Core.Bool.{Bool, cond}
@@ -9,9 +9,11 @@ use Rattle.session.specs.declared.Found.{Found}
 use Rattle.session.specs.declared.Found.the-variants as found
 use Rattle.run.specs.declared.Outcome.{Outcome}
 use Rattle.run.specs.declared.Outcome.the-variants as outcome
+use Rattle.replay_log.specs.Replay.{ReplayOf}
 use Rattle.order.specs.Query.{Answers, yes, no, log-refused, query-refused}
 use Rattle.order.specs.Query as order
 use Rattle.bilguzor.specs.declared.Judgement.{Judgement}
+use Rattle.bilguzor.specs.declared.Replayed.{Replayed}
 use Rattle.bilguzor.specs.declared.Ordering.{Ordering}
 
 -- the header's number of this library's answers and layouts
@@ -45,6 +47,13 @@ pub record RunNumbers (pattern log : List ℕ) (r : Judgement) : Type 0 where
   pub given : Given
   pub run : RunOf pattern log given
   pub numbers : r ≡ judgementOf given
+
+-- "On a match, write into a lent buffer a whole log holding the same events in an order that shows the pattern.": what the call gives, in numbers, the
+-- length given, and the buffer afterwards
+pub record ReplayNumbers (pattern log before : List ℕ) (r : Replayed) (after : List ℕ) : Type 0 where
+  pub given : Given
+  pub replay : ReplayOf pattern log before given (r .length) after
+  pub numbers : r .judgement ≡ judgementOf given
 
 -- The kinds: 0 no, 1 yes, 3 the log is refused, 4 the query is refused.
 abbrev pub orderingOf : order.OrderAnswer → Ordering
