@@ -37,9 +37,8 @@
  *
  * 9 to 14 are looked for at each event, before the next command is looked at: an event that breaks a rule is refused whatever follows it.
  *
+ *   15  replay: the buffer has fewer bytes than the log, match or none; looked for after the whole log has passed, and the offset is 0
  *   16  order query: an event number of 0 or above the number of events; the offset is 0
- *
- * (15 belongs to writing a log, which is not exported.)
  */
 #ifndef BILGUZOR_H
 #define BILGUZOR_H
@@ -91,6 +90,12 @@ typedef struct bilguzor_judgement {
     size_t offset; /* of the refusal; 0 without one */
 } bilguzor_judgement;
 
+/* What a replay has found and written. 40 bytes. */
+typedef struct bilguzor_replayed {
+    bilguzor_judgement judgement; /* what bilguzor_run gives; or BILGUZOR_LOG_REFUSED with 15 */
+    size_t length; /* with a match, how many bytes are written, which is the size of the log; else 0 */
+} bilguzor_replayed;
+
 /* Whether one event of a log comes before another. 16 bytes. */
 typedef struct bilguzor_ordering {
     uint8_t kind; /* BILGUZOR_NO, BILGUZOR_YES, BILGUZOR_LOG_REFUSED or BILGUZOR_QUERY_REFUSED */
@@ -127,6 +132,17 @@ typedef struct bilguzor_opening {
 /* Judges a whole log by a pattern. A refused pattern answers BILGUZOR_PATTERN_REFUSED (1 to 8), and the log is not looked at; a refusal anywhere
  * in the log answers BILGUZOR_LOG_REFUSED (3 to 14), also after a match. */
 bilguzor_judgement bilguzor_run(const uint8_t *pattern, size_t pattern_size, const uint8_t *log, size_t log_size);
+
+/* Judges a whole log by a pattern, as bilguzor_run does. With a match it writes at the start of the buffer a log that shows it: the same events,
+ * first all that come before the event of slot 1 or are it, then those not yet written that do so for slot 2, and so on, then the rest, each group in
+ * the order of the log. Swaps of neighbours that do not depend on each other lead to that order, which holds the slots in sequence; bilguzor_run over
+ * it with the same pattern answers BILGUZOR_YES. It is exactly as long as the log: a buffer of log_size bytes is enough, and bytes after it stay as
+ * they were.
+ *
+ * What bilguzor_run refuses is refused alike. Once the log has passed, a buffer with fewer bytes than the log answers BILGUZOR_LOG_REFUSED (15, at
+ * offset 0), match or none. Without a match, and for every refusal, no byte of the buffer is changed, and the length is 0. */
+bilguzor_replayed bilguzor_replay(
+    const uint8_t *pattern, size_t pattern_size, const uint8_t *log, size_t log_size, uint8_t *buffer, size_t buffer_size);
 
 /* Whether event number `first` of the log, counted from 1, comes before event number `second` or is it. A refused log answers BILGUZOR_LOG_REFUSED
  * (3 to 14); a number that no event of the log has then BILGUZOR_QUERY_REFUSED (16). */
@@ -180,6 +196,7 @@ static inline bilguzor_judgement bilguzor_session_verdict(const bilguzor_session
 #endif
 
 BILGUZOR_ASSERT_SIZE(bilguzor_judgement, 32);
+BILGUZOR_ASSERT_SIZE(bilguzor_replayed, 40);
 BILGUZOR_ASSERT_SIZE(bilguzor_ordering, 16);
 BILGUZOR_ASSERT_SIZE(bilguzor_answer, 16);
 BILGUZOR_ASSERT_SIZE(bilguzor_session, 2484);

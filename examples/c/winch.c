@@ -1,4 +1,4 @@
-/* A session that is handed its events one by one, runs over whole logs, and order queries, through libbilguzor.a. */
+/* A session that is handed its events one by one, runs over whole logs, a replay, and order queries, through libbilguzor.a. */
 #include <stdio.h>
 
 #include "bilguzor.h"
@@ -77,15 +77,32 @@ static const uint8_t sign_log[] = { 7, 1, 11, 0, 2, 0, 0, 0x70, 0xFE, 0xFF, 0xFF
 /* thread 0 acquires lock 2 twice */
 static const uint8_t held_log[] = { 3, 0, 2, 3, 0, 2, 0 };
 
+/* thread 0 writes variable 0, thread 1 mark 11 */
+static const uint8_t sign[] = { 2, 0, 0, 7, 1, 11, 0, 0 };
+
 static void runs(void)
 {
-    static const uint8_t sign[] = { 2, 0, 0, 7, 1, 11, 0, 0 };
     static const uint8_t other[] = { 7, 1, 12, 0, 0 };
     static const uint8_t open_ended[] = { 7, 1, 12, 0 };
     print_judgement("run", bilguzor_run(sign, sizeof sign, sign_log, sizeof sign_log));
     print_judgement("run", bilguzor_run(other, sizeof other, sign_log, sizeof sign_log));
     print_judgement("run", bilguzor_run(other, sizeof other, held_log, sizeof held_log));
     print_judgement("run", bilguzor_run(open_ended, sizeof open_ended, held_log, sizeof held_log));
+}
+
+static void replays(void)
+{
+    uint8_t buffer[sizeof sign_log];
+    bilguzor_replayed r = bilguzor_replay(sign, sizeof sign, sign_log, sizeof sign_log, buffer, sizeof buffer);
+    print_judgement("replay", r.judgement);
+    printf("replay of %zu bytes:", r.length);
+    for (size_t i = 0; i < r.length; i++) {
+        printf(" %02X", buffer[i]);
+    }
+    printf("\n");
+    print_judgement("run over the replay", bilguzor_run(sign, sizeof sign, buffer, r.length));
+    r = bilguzor_replay(sign, sizeof sign, sign_log, sizeof sign_log, buffer, sizeof buffer - 1);
+    print_judgement("replay, a byte too short", r.judgement);
 }
 
 static void orders(void)
@@ -104,6 +121,7 @@ int main(void)
     printf("version %u%s\n", (unsigned)bilguzor_version(), bilguzor_version() == BILGUZOR_VERSION ? "" : ", which is not the header's");
     sessions();
     runs();
+    replays();
     orders();
     return 0;
 }

@@ -1,4 +1,4 @@
-// A session that is handed its events one by one, runs over whole logs, and order queries, through libbilguzor.a.
+// A session that is handed its events one by one, runs over whole logs, a replay, and order queries, through libbilguzor.a.
 // `bilguzor.h` says what each function answers; the declarations below are the same.
 #[repr(C)]
 struct Judgement {
@@ -7,6 +7,12 @@ struct Judgement {
     events: [u16; 5],
     count: usize,
     offset: usize,
+}
+
+#[repr(C)]
+struct Replayed {
+    judgement: Judgement,
+    length: usize,
 }
 
 #[repr(C)]
@@ -43,6 +49,7 @@ struct Opening {
 
 // The sizes that the library was compiled with.
 const _: () = assert!(std::mem::size_of::<Judgement>() == 32);
+const _: () = assert!(std::mem::size_of::<Replayed>() == 40);
 const _: () = assert!(std::mem::size_of::<Ordering>() == 16);
 const _: () = assert!(std::mem::size_of::<Answer>() == 16);
 const _: () = assert!(std::mem::size_of::<Session>() == 2484);
@@ -50,6 +57,14 @@ const _: () = assert!(std::mem::size_of::<Opening>() == 2512);
 
 extern "C" {
     fn bilguzor_run(pattern: *const u8, pattern_size: usize, log: *const u8, log_size: usize) -> Judgement;
+    fn bilguzor_replay(
+        pattern: *const u8,
+        pattern_size: usize,
+        log: *const u8,
+        log_size: usize,
+        buffer: *mut u8,
+        buffer_size: usize,
+    ) -> Replayed;
     fn bilguzor_order(log: *const u8, log_size: usize, first: usize, second: usize) -> Ordering;
     fn bilguzor_open(pattern: *const u8, pattern_size: usize) -> Opening;
     fn bilguzor_take(
@@ -83,6 +98,10 @@ const MARK: u32 = 7;
 // A slice's pointer is never null, so each call below is within what the header asks.
 fn run(pattern: &[u8], log: &[u8]) -> Judgement {
     unsafe { bilguzor_run(pattern.as_ptr(), pattern.len(), log.as_ptr(), log.len()) }
+}
+
+fn replay(pattern: &[u8], log: &[u8], buffer: &mut [u8]) -> Replayed {
+    unsafe { bilguzor_replay(pattern.as_ptr(), pattern.len(), log.as_ptr(), log.len(), buffer.as_mut_ptr(), buffer.len()) }
 }
 
 fn order(log: &[u8], first: usize, second: usize) -> Ordering {
@@ -186,14 +205,28 @@ const SIGN_LOG: [u8; 12] = [7, 1, 11, 0, 2, 0, 0, 0x70, 0xFE, 0xFF, 0xFF, 0];
 // thread 0 acquires lock 2 twice
 const HELD_LOG: [u8; 7] = [3, 0, 2, 3, 0, 2, 0];
 
+// thread 0 writes variable 0, thread 1 mark 11
+const SIGN: [u8; 8] = [2, 0, 0, 7, 1, 11, 0, 0];
+
 fn runs() {
-    let sign = [2, 0, 0, 7, 1, 11, 0, 0];
     let other = [7, 1, 12, 0, 0];
     let open_ended = [7, 1, 12, 0];
-    print_judgement("run", &run(&sign, &SIGN_LOG));
+    print_judgement("run", &run(&SIGN, &SIGN_LOG));
     print_judgement("run", &run(&other, &SIGN_LOG));
     print_judgement("run", &run(&other, &HELD_LOG));
     print_judgement("run", &run(&open_ended, &HELD_LOG));
+}
+
+fn replays() {
+    let mut buffer = [0; SIGN_LOG.len()];
+    let r = replay(&SIGN, &SIGN_LOG, &mut buffer);
+    print_judgement("replay", &r.judgement);
+    let written = &buffer[..r.length];
+    let bytes: Vec<String> = written.iter().map(|b| format!("{b:02X}")).collect();
+    println!("replay of {} bytes: {}", r.length, bytes.join(" "));
+    print_judgement("run over the replay", &run(&SIGN, written));
+    let r = replay(&SIGN, &SIGN_LOG, &mut buffer[1..]);
+    print_judgement("replay, a byte too short", &r.judgement);
 }
 
 fn orders() {
@@ -211,5 +244,6 @@ fn main() {
     println!("version {version}{}", if version == VERSION { "" } else { ", which is not the header's" });
     sessions();
     runs();
+    replays();
     orders();
 }
