@@ -2,8 +2,8 @@
 use Prim.Native.Nat.{ℕ, zero, suc, _+_, _≤_, _<_}
 use native.Mathlib.Nat.{zero-add}
 use native.Mathlib.Omega.{arith}
-use mathlib.Core.Path.{_≡_, refl, sym, ap, subst, _∙_}
-use mathlib.Core.Bool.{Bool, true, false, cond, false≢true}
+use mathlib.Core.Path.{_≡_, refl, sym, ap, _∙_}
+use mathlib.Core.Bool.{Bool, true, false, false≢true}
 use mathlib.Core.List.{List, [], _∷_, _++_, List·Memᴰ as Mem, List·Memᴰ·head as head, List·Memᴰ·tail as tail}
 use lib.Dec.{ltb}
 use lib.ListN.{length, getD, take, drop, length-append}
@@ -14,7 +14,7 @@ use borrow.Author.Tests.{ltb-true, ltb-false}
 use Rattle.event.specs.declared.Event.{Event}
 use Rattle.event.specs.declared.Slot.{Slot}
 use Rattle.event.specs.Limits.{slots as slotLimit, events}
-use Rattle.rules.specs.Accepted.{AcceptedAfter, whole, one-more, Accepted}
+use Rattle.rules.specs.Accepted.{AcceptedAfter, one-more}
 use Rattle.rules.proofs.StateLaws.{clear}
 use Rattle.trace.specs.Match.{smallest, without}
 use Rattle.trace.proofs.Rows.{each-length, each-mem}
@@ -25,7 +25,7 @@ use Rattle.log.specs.Whole.{Whole, readLog, readPattern, accepted, refused, pat
 use Rattle.log.proofs.LogRoundTrip.{log-calls}
 use Rattle.log.proofs.PatternRoundTrip.{pattern-iff}
 use Rattle.session.specs.Answers.{Ruling, Refused, nothing, Given}
-use Rattle.session.specs.Meaning.{VerdictOf, RunOn, log-refused, judged, RunOf, pattern-refused, over-log}
+use Rattle.session.specs.Meaning.{VerdictOf, log-refused, judged, RunOf, pattern-refused, over-log}
 use Rattle.run.specs.declared.Outcome.{Outcome}
 use Rattle.run.specs.declared.Outcome.the-variants.{Match, None, PatternRefused, LogRefused}
 use Rattle.run.specs.Answers.{judgedIs, outcomeIs}

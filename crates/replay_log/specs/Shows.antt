@@ -7,7 +7,6 @@ use lib.ListN.{length}
 use Rattle.event.specs.declared.Event.{Event}
 use Rattle.event.specs.declared.Slot.{Slot}
 use Rattle.event.specs.Slots.{fits}
-use Rattle.rules.specs.Accepted.{Accepted}
 use Rattle.log.specs.Whole.{readLog, accepted, logBytes}
 use Rattle.trace.specs.Match.{Holds}
 use Rattle.dependence.specs.Order.{Reaches}

@@ -4,15 +4,14 @@ use mathlib.Core.Path.{_≡_, refl, sym, ap, ap₂, _∙_}
 use mathlib.Core.Bool.{Bool, true, false, not, _&&_, and-eq-true-iff}
 use mathlib.Core.List.{List, [], _∷_, _++_, map, map-append, List·Memᴰ as Mem, List·Memᴰ·head as head, List·Memᴰ·tail as tail}
 use Prim.Native.Nat.{ℕ, zero, suc, _+_, _≤_, _<_, max}
-use native.Mathlib.Decide.{decLe}
 use native.Mathlib.Omega.{arith}
-use lib.Dec.{eqb, leb, ltb}
+use lib.Dec.{leb, ltb}
 use lib.ListN.{length}
-use borrow.Author.Tests.{eq-eqb, le-leb, lt-leb, leb-true, leb-false, lt-ltb, ltb-true, not-true}
+use borrow.Author.Tests.{eq-eqb, le-leb, lt-leb, leb-false, lt-ltb, ltb-true, not-true}
 use Rattle.event.specs.declared.Event.{Event}
 use Rattle.event.specs.Slots.{noEvent}
 use Rattle.trace.specs.Before.{Numbered}
-use Rattle.trace.specs.Tuples.{eventAt, depAt, threadAt, Among, place, one-more, keep}
+use Rattle.trace.specs.Tuples.{eventAt, depAt, threadAt, Among, place, keep}
 use Rattle.trace.proofs.Lists.{failed, same-test, filter}
 use Rattle.trace.proofs.Groups.{arrange}
 use Rattle.trace.proofs.Runs.{run, among-of, of-among}

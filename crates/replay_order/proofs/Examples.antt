@@ -1,7 +1,6 @@
 -- The replay order of two examples, computed: document 01's trial 2, and the panel that fetches a sign and then its figures.
 -- Assumes nothing.
-use mathlib.Core.Path.{refl}
-use mathlib.Core.List.{List, [], _∷_}
+use mathlib.Core.List.{[], _∷_}
 use Prim.Native.Nat.{ℕ}
 use lib.IntN.{ℤ}
 use Rattle.event.specs.declared.Event.{Event}

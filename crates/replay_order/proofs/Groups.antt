@@ -6,9 +6,9 @@ use native.Mathlib.Numerals.{add-one}
 use native.Mathlib.Omega.{arith}
 use mathlib.Core.Path.{_≡_, refl, sym, ap, ap₂, subst, _∙_}
 use mathlib.Core.Bool.{Bool, true, false, _&&_}
-use mathlib.Core.List.{List, [], _∷_, _++_, append-assoc, append-nil, map}
-use lib.Dec.{leb, ltb}
-use lib.ListN.{length, getD, take, replicate, getD-replicate, length-append}
+use mathlib.Core.List.{List, [], _∷_, _++_, append-assoc, map}
+use lib.Dec.{ltb}
+use lib.ListN.{length, getD, take, replicate, getD-replicate}
 use borrow.Author.Tests.{le-leb}
 use Rattle.event.specs.declared.Event.{Event}
 use Rattle.event.specs.Limits.{threads, slots as slotLimit, events}
@@ -26,7 +26,7 @@ use Rattle.clock.specs.declared.Stamp.{Stamp}
 use Rattle.clock.specs.Clocks.{noStamp, higherOf}
 use Rattle.clock.proofs.Entries.{heard-from, heard-length}
 use Rattle.replay_order.specs.Replay.{IsReplay}
-use Rattle.replay_order.specs.Copies.{noEntry, commands, copied, between, counts, Tells, Copies, Read, Listed, StampsTo, Replays}
+use Rattle.replay_order.specs.Copies.{noEntry, commands, copied, between, counts, Tells, Copies, Read, Listed, StampsTo}
 use Rattle.replay_order.proofs.Order.{replay-perm}
 use Rattle.replay_order.proofs.Lengths.{log-commands, log-length, perm-length}
 use Rattle.replay_order.proofs.ByStamps.{groups, Stamped, groups-replay}

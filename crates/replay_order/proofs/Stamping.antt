@@ -7,7 +7,7 @@ use mathlib.Core.Path.{_≡_, refl, sym, ap, subst, _∙_}
 use mathlib.Core.Bool.{Bool, true, false, cond, _||_, true≢false}
 use mathlib.Core.List.{List, [], _∷_, _++_}
 use lib.Dec.{eqb}
-use lib.ListN.{length, getD, length-append, replicate, length-replicate}
+use lib.ListN.{length, getD, length-append}
 use borrow.Author.Tests.{eq-eqb, ne-eqb}
 use Rattle.event.specs.declared.Event.{Event}
 use Rattle.event.specs.Limits.{slots as slotLimit, events}
@@ -19,7 +19,7 @@ use Rattle.clock.specs.declared.Stamp.{Stamp}
 use Rattle.clock.specs.Arrivals.{StampOf, ClocksOf, Arrived}
 use Rattle.passes.proofs.Passes.{stamp-stays}
 use Rattle.replay_order.specs.Copies.{Read, noEntry, isOneOf, withStamp, StampsTo}
-use Rattle.replay_order.proofs.Reader.{Ahead, from-start, left, onward, in-limits, none-left}
+use Rattle.replay_order.proofs.Reader.{Ahead, from-start, left, onward, in-limits}
 
 -- none of the numbers is i
 none-of : (numbers : List ℕ) (i n : ℕ) → isOneOf n numbers i ≡ false → (j : ℕ) → j < n → eqb (getD numbers j 0) i ≡ false

@@ -1,4 +1,4 @@
-use mathlib.Core.Path.{refl, sym, _∙_}
+use mathlib.Core.Path.{_∙_}
 use Rattle.replay_log.proofs.Calling.{kept}
 use borrow.Author.Needs.{needs}
 use Rattle.replay_log.proofs.without_match.Statement.{statement}

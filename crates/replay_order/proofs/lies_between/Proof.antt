@@ -1,5 +1,4 @@
 use borrow.Author.Tests.{lt-ltb, le-ltb}
-use borrow.Author.Needs.{needs}
 use Rattle.replay_order.proofs.lies_between.Statement.{statement}
 use Rattle.replay_order.proofs.lies_between.Tie as tie
 
