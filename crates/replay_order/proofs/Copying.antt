@@ -270,11 +270,16 @@ module _ {bytes : List ℕ} {es : List Event} (r : Read bytes es) (test : ℕ �
                       ∙ ap (λ (x : List ℕ). put x before start) (sym (commands-append (copied test es i) (e ∷ [])));
                 })
 
-          -- the event is copied where it passes
-          pub goes-by : (wanted : Bool) → wanted ≡ lies → {to-now : ℕ} {after : List ℕ} → CopiedIf wanted part buffer to to-now after
-              → Copying bytes es test before start seen-now after to-now next (i + 1)
-          goes-by true w k = gone-on _ _ (let t = told ∙ sym w in this-one t (copied-there part buffer to k (fits t)))
-          goes-by false w k = gone-on _ _ (not-this (told ∙ sym w) (k .place) (k .is))
+          -- the event is copied where it passes; t is its thread
+          pub goes-by : (t : ℕ) (wanted : Bool) → t ≡ e .thread → wanted ≡ between (counts above t) (counts within t) (up (getD seen t 0))
+              → {to-now : ℕ} {after : List ℕ} → CopiedIf wanted part buffer to to-now after
+              → Copying bytes es test before start (set seen t (up (getD seen t 0))) after to-now next (i + 1)
+          goes-by t wanted z w k = rw z (go wanted (rw z at w) k)
+            where
+              go : (wanted : Bool) → wanted ≡ lies → {to-now : ℕ} {after : List ℕ} → CopiedIf wanted part buffer to to-now after
+                  → Copying bytes es test before start seen-now after to-now next (i + 1)
+              go true w k = gone-on _ _ (let t = told ∙ sym w in this-one t (copied-there part buffer to k (fits t)))
+              go false w k = gone-on _ _ (not-this (told ∙ sym w) (k .place) (k .is))
 
     -- the pass has come to event number n, or to the log's end
     pub all-copied : {n : ℕ} → i ≡ n → Copies (copied test es (min n (length es))) before start to buffer

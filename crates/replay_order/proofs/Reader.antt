@@ -3,18 +3,20 @@
 use Prim.Native.Nat.{ℕ, _+_, _<_}
 use native.Mathlib.Decide.{decLt}
 use native.Mathlib.Omega.{arith}
-use mathlib.Core.Path.{_≡_, refl, sym, ap, _∙_}
-use mathlib.Core.List.{List, [], _∷_, _++_}
-use lib.ListN.{length, length-append}
+use mathlib.Core.Path.{_≡_, refl, sym, ap, ap₂, _∙_}
+use mathlib.Core.Bool.{true}
+use mathlib.Core.List.{List, [], _∷_, _++_, append-nil}
+use lib.ListN.{length, getD, length-append}
 use types.Run.{OneOf}
 use denote.Enum.Declared.{tagOf}
 use Rattle.event.specs.declared.Event.{Event}
 use Rattle.event.specs.Slots.{slotOf}
 use Rattle.event.specs.Range.{rangeRefusal}
 use Rattle.command.specs.declared.EventRead.{EventRead}
-use Rattle.command.specs.Reading.{command, closed, readEvent, eventReadIs}
+use Rattle.command.specs.Reading.{Reading, command, closed, refused, eventAt, decode, nextAfter, readEvent, readEventUnder, eventReadIs}
 use Rattle.command.proofs.EventRead.{the-type}
-use Rattle.command.proofs.Inversion.{not-closed}
+use Rattle.command.proofs.Held.{was-taken, was-closed}
+use Rattle.command.proofs.Inversion.{Found, decode-found, goes-on, not-closed}
 use Rattle.log.specs.Leading.{Leading}
 use Rattle.log.specs.Calls.{ReadCalls}
 use Rattle.log.proofs.Leading.{Midway, past-it, past-to, within-limits, not-absent}
@@ -62,3 +64,44 @@ module _ {bytes : List ℕ} where
         go : Dec (length gone < length es) → length gone ≡ length es
         go (yes l) = not-absent (a .midway) l r q k
         go (no d) = let w = length-whole in omega arith
+
+-- ---- a command by its form alone
+
+-- its thread is its second byte
+pub thread-is : (bytes : List ℕ) (at : ℕ) → getD bytes (at + 1) 0 ≡ eventAt true bytes at .thread
+thread-is bytes at = omega arith
+
+module _ (bytes : List ℕ) (at next : ℕ) (n : next ≡ nextAfter at (decode true bytes at)) where
+  -- where the next place is another one, a whole command stands there
+  pub stands-there : (next ≡ at → ⊥) → Found true bytes at (eventAt true bytes at) next
+  stands-there d = go (decode true bytes at) refl n
+    where
+      go : (r : Reading Event) → decode true bytes at ≡ r → next ≡ nextAfter at r → Found true bytes at (eventAt true bytes at) next
+      go (command e m) q z = let f = decode-found true bytes at e m q in record { stands = f .stands; event = refl; next-is = f .next-is ∙ sym z }
+      go closed q z = absurd (d z)
+      go (refused k o) q z = absurd (d z)
+
+  module _ {es gone : List Event} (a : Ahead bytes es gone at) where
+    -- and it is the next event,
+    pub is-next : (next ≡ at → ⊥) → command (eventAt true bytes at) next ≡ readEvent bytes at
+    unfolding readEventUnder
+    is-next d = go (a .midway .ahead) (a .ends)
+      where
+        go : {to : ℕ} {rest : List Event} → Leading (readEvent bytes) to at rest → readEvent bytes to ≡ closed → command (eventAt true bytes at) next ≡ readEvent bytes at
+        go Leading.none c = absurd (d (n ∙ ap (nextAfter at) (was-closed (λ e. rangeRefusal (slotOf e)) (λ e. e) at (decode true bytes at) c)))
+        go (Leading.more {next = m} {a = x} p l) c =
+            let w = was-taken (λ e. rangeRefusal (slotOf e)) at (decode true bytes at) x m p .0 in
+            ap₂ (λ (y : Event) (k : ℕ). command y k) (decode-found true bytes at x m w .event) (n ∙ ap (nextAfter at) w) ∙ sym p
+
+    -- where it is the same place, none is left
+    pub is-end : next ≡ at → length gone ≡ length es
+    unfolding readEventUnder
+    is-end z = go (a .midway .ahead) (a .midway .whole)
+      where
+        go : {to : ℕ} {rest : List Event} → Leading (readEvent bytes) to at rest → es ≡ gone ++ rest → length gone ≡ length es
+        go Leading.none w = sym (ap length (w ∙ append-nil gone))
+        go (Leading.more {next = m} {a = x} p l) w =
+            let t = was-taken (λ e. rangeRefusal (slotOf e)) at (decode true bytes at) x m p .0 in
+            let u : next ≡ m = n ∙ ap (nextAfter at) t in
+            let v = goes-on true bytes at x m t in
+            absurd (let f : ⊥ = omega arith in f)

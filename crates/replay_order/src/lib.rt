@@ -118,11 +118,15 @@ fn copy_between(
     let mut at: usize = 0;
     let mut i: usize = 0;
     while i < n {
-        let read = command::read_event(log, at);
-        let EventRead::Event { event, next } = read else {
+        let next = command::next_at(log, at);
+        if next == at {
             return to;
-        };
-        let t = event.thread as usize;
+        }
+        // A log that was judged has no thread above the limit.
+        let t = log[at + 1] as usize;
+        if t >= clock::THREADS {
+            return to;
+        }
         let place = clock::next_count(seen[t], true);
         seen[t] = place;
         let passes = lies_between(above.at[t], within.at[t], place);

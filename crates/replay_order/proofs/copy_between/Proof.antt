@@ -1,15 +1,16 @@
 use Prim.Native.Nat.{ℕ, _+_, _-_, _≤_, min}
 use native.Mathlib.Omega.{arith}
 use mathlib.Core.Path.{_≡_, refl, sym, ap, _∙_}
-use mathlib.Core.Bool.{Bool}
+use mathlib.Core.Bool.{Bool, true}
 use mathlib.Core.List.{List}
 use lib.ListN.{length, length-replicate, getD-replicate}
 use Rattle.event.specs.declared.Event.{Event}
 use Rattle.event.specs.Limits.{threads}
-use Rattle.command.specs.Reading.{eventReadIs}
+use Rattle.command.specs.Reading.{eventAt}
+use Rattle.command.proofs.WholeCommand.{third}
 use Rattle.replay_order.specs.Copies.{Read, Tells, commands, copied, between}
-use Rattle.replay_order.proofs.Reader.{none-left}
-use Rattle.replay_order.proofs.Copying.{stands, low-thread, Copying, begun, goes-by, all-copied, at-the-end}
+use Rattle.replay_order.proofs.Reader.{thread-is, stands-there, is-next, is-end}
+use Rattle.replay_order.proofs.Copying.{low-thread, Copying, begun, goes-by, all-copied, at-the-end}
 use borrow.Author.Needs.{needs}
 use Rattle.replay_order.proofs.copy_between.Statement.{statement}
 use Rattle.replay_order.proofs.copy_between.Tie as tie
@@ -36,29 +37,42 @@ loop-holds c = (
 returns : tie.Need-returns Inv-loop μ-loop
 returns c = λ es test r tells l.
     let k = c .before .before .before .loop .inv .1 .1 es test r tells l in
-    at-the-end r test _ _ k (c .before .before .loop-test .taken) (none-left (k .ahead) (c .before .read-event .result) (c .before .read-event .ensures) (c .match .keys2))
+    at-the-end r test _ _ k (c .before .before .loop-test .taken) (is-end _ _ _ (c .before .next-at .ensures) (k .ahead) (c .if1 .taken))
 
--- the event's thread is below the limit
-in-row : tie.Need-array-read-next-count Inv-loop μ-loop
-in-row c = low-thread _ _ _ _ (sym (ap eventReadIs (c .before .before .read .given .1)) ∙ c .before .before .before .before .read-event .ensures)
+returns-2 : tie.Need-returns-2 Inv-loop μ-loop
+returns-2 c = λ es test r tells l.
+    let k = c .before .before .before .before .before .loop .inv .1 .1 es test r tells l in
+    let log = c .before .before .before .before .before .before .before .before .args .log .now in
+    let at = c .before .before .before .before .before .loop .at in
+    let low = low-thread log at _ _ (is-next log at _ (c .before .before .before .next-at .ensures) (k .ahead) (c .before .before .if1 .left)) in
+    let t = thread-is log at in
+    let u = c .if2 .taken in
+    absurd (let f : ⊥ = omega arith in f)
 
--- and its command lies within the log
+second : tie.Need-shared-slice-read-t Inv-loop μ-loop
+second c =
+    let f = stands-there _ _ _ (c .before .before .next-at .ensures) (c .before .if1 .left) in
+    let l = third true _ _ (f .stands) in
+    omega arith
+
+-- its command lies within the log
 part-start : tie.Need-part-copy-if-start Inv-loop μ-loop
-part-start c = let s = stands _ _ _ _ (sym (ap eventReadIs (c .before .before .before .before .before .before .before .read .given .1)) ∙ c .before .before .before .before .before .before .before .before .before .read-event .ensures) in omega arith
+part-start c = let f = stands-there _ _ _ (c .before .before .before .before .before .before .before .before .next-at .ensures) (c .before .before .before .before .before .before .before .if1 .left) in let z = f .next-is in omega arith
 
 part-end : tie.Need-part-copy-if-end Inv-loop μ-loop
-part-end c = let s = stands _ _ _ _ (sym (ap eventReadIs (c .before .before .before .before .before .before .before .read .given .1)) ∙ c .before .before .before .before .before .before .before .before .before .read-event .ensures) in omega arith
+part-end c = let f = stands-there _ _ _ (c .before .before .before .before .before .before .before .before .next-at .ensures) (c .before .before .before .before .before .before .before .if1 .left) in let z = f .next-is in let w = f .stands .whole in omega arith
 
 loop-again : tie.Need-loop-again Inv-loop μ-loop
 loop-again c =
-    let l = c .before .before .before .before .before .before .before .before .before .before .before .before .before .before .before .loop in
-    let q = sym (ap eventReadIs (c .before .before .before .before .before .before .before .before .before .before .before .read .given .1)) ∙ c .before .before .before .before .before .before .before .before .before .before .before .before .before .read-event .ensures in (
-      let t = c .before .before .before .before .before .before .before .before .before .before .before .before .before .before .loop-test .taken in omega arith,
+    let l = c .before .before .before .before .before .before .before .before .before .before .before .before .before .before .loop in
+    let a = c .before .before .before .before .before .before .before .before .before .before .before .before .before .before .before .before .before .args in (
+      let t = c .before .before .before .before .before .before .before .before .before .before .before .before .before .loop-test .taken in omega arith,
       (
         c .before .buffer .given ∙ l .inv .1 .0,
         λ es test r tells room.
+            let k = l .inv .1 .1 es test r tells room in
             rw (c .before .before .before .before .before .before .before .before .next-count .ensures)
-            (goes-by r test _ _ (l .inv .1 .1 es test r tells room) _ _ q (c .before .before .before .before .before .before .before .before .before .before .before .before .before .before .before .before .before .before .args .t3) (c .before .before .before .before .before .before .before .before .before .before .before .before .before .before .before .before .before .before .args .t4) tells _ (c .before .before .before .before .before .before .before .before .before .before .before .before .before .before .loop-test .taken) room _ (c .before .before .before .before .before .lies-between .ensures ∙ ap (between _ _) (c .before .before .before .before .before .before .before .before .next-count .ensures)) (c .before .before .copy-if .ensures)),
+            (goes-by r test _ _ k (eventAt true (a .log .now) (l .at)) _ (is-next (a .log .now) (l .at) _ (c .before .before .before .before .before .before .before .before .before .before .before .before .next-at .ensures) (k .ahead) (c .before .before .before .before .before .before .before .before .before .before .before .if1 .left)) (a .t3) (a .t4) tells _ (c .before .before .before .before .before .before .before .before .before .before .before .before .before .loop-test .taken) room _ _ (thread-is (a .log .now) (l .at)) (c .before .before .before .before .before .lies-between .ensures ∙ ap (between _ _) (c .before .before .before .before .before .before .before .before .next-count .ensures)) (c .before .before .copy-if .ensures)),
       ),
     )
 
@@ -70,26 +84,29 @@ copy-between-spec =
     μ-loop
     loop-holds
     (λ c κs. search needs)
-    (λ c. search needs)
     (λ c. c .before .before .before .loop .inv .1 .0)
     returns
+    (λ c. let f = stands-there _ _ _ (c .before .next-at .ensures) (c .if1 .left) in let l = third true _ _ (f .stands) in omega arith)
+    second
+    (λ c. search (needs, c .shared-slice-known2 .given (c .before .before .before .before .loop .at + 1)))
+    (λ c. c .before .before .before .before .before .loop .inv .1 .0)
+    returns-2
     (λ c. search needs)
     (λ c. search needs)
-    in-row
     (λ c κs. search needs)
     (λ c. search needs)
-    (λ c. in-row (c .before))
     (λ c. search needs)
-    (λ c. in-row (c .before))
     (λ c. search needs)
-    (λ c. in-row (c .before .before))
+    (λ c. search needs)
+    (λ c. search needs)
+    (λ c. search needs)
     (λ c κs. search needs)
     (λ c. let s = part-start c in omega arith)
     part-start
     part-end
     (λ c κs. search needs)
     (λ c. search needs)
-    (λ c. let t = c .before .before .before .before .before .before .before .before .before .before .before .before .before .before .loop-test .taken in omega arith)
+    (λ c. let t = c .before .before .before .before .before .before .before .before .before .before .before .before .before .loop-test .taken in omega arith)
     loop-again
     (λ c. c .before .loop .inv .1 .0)
     (λ c. λ es test r tells l. all-copied r test _ _ (c .before .loop .inv .1 .1 es test r tells l) (let t = c .loop-test .left in let v = c .before .loop .inv .0 in omega arith)))
