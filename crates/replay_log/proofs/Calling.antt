@@ -30,7 +30,7 @@ use Rattle.run.specs.declared.Outcome.{Outcome}
 use Rattle.run.specs.declared.Outcome.the-variants.{Match, None, PatternRefused, LogRefused}
 use Rattle.run.specs.Answers.{judgedIs, outcomeIs}
 use Rattle.run.proofs.Outcome.{the-type}
-use Rattle.replay_order.specs.Copies.{Read, Listed, Replays}
+use Rattle.replay_order.specs.Copies.{ReadAs, NamedAmong, Replays}
 use Rattle.replay_log.specs.declared.Replayed.{Replayed}
 use Rattle.replay_log.specs.Replay.{ReplayOf, tooShort, withoutMatch}
 
@@ -39,7 +39,7 @@ few-events : {past : List Event} (es : List Event) → AcceptedAfter past es →
 few-events [] a l = omega arith
 few-events {past} (e ∷ es) (one-more z a) l = let h = few-events es a (let r = clear past e z .room in r) in omega arith
 
-pub read-whole : (bytes : List ℕ) → Bytes bytes → (es : List Event) → readLog bytes ≡ accepted es → Read bytes es
+pub read-whole : (bytes : List ℕ) → Bytes bytes → (es : List Event) → readLog bytes ≡ accepted es → ReadAs bytes es
 read-whole bytes b es q = let c = log-calls bytes es .0 q in record { bytes-are = b; calls = c .0; few = let h = few-events es (c .1) (omega arith) in omega arith }
 
 -- ---- what a run that refused nothing said
@@ -97,7 +97,7 @@ mem-at (x ∷ xs) (suc j) l = tail (mem-at xs j (omega arith))
 
 module _ {ss : List Slot} {es : List Event} {r : Ruling} (v : VerdictOf ss es r) (t : r .matches ≡ true) where
   -- the events named are among the first, so many as the count says
-  pub listed : Listed es (r .events) (length ss) (r .count)
+  pub listed : NamedAmong es (r .events) (length ss) (r .count)
   listed =
       record {
         few = within (v .count);
@@ -130,7 +130,7 @@ module _ (pattern bytes buffer : List ℕ) (o : Outcome) (numbers : List ℕ) (n
   short-of-it t = ReplayOf.too-short (rw e at run) refl (ltb-true _ _ t)
 
   pub replay-written : ltb (length buffer) (length bytes) ≡ false → Bytes bytes → (size long : ℕ) (after : List ℕ) → size ≡ patternFrom (readPattern pattern) .size
-      → ((es : List Event) → Read bytes es → Listed es numbers size n → length bytes ≤ length buffer → Replays es (take size numbers) buffer long after)
+      → ((es : List Event) → ReadAs bytes es → NamedAmong es numbers size n → length bytes ≤ length buffer → Replays es (take size numbers) buffer long after)
       → ReplayOf pattern bytes buffer (outcomeIs o numbers) long after
   replay-written f b size long after is writes =
       let l = ltb-false _ _ f in

@@ -34,7 +34,7 @@ use Rattle.log.proofs.LogRoundTrip.{events-kind}
 use Rattle.clock.specs.declared.Stamp.{Stamp}
 use Rattle.clock.specs.Clocks.{highestCount, up}
 use Rattle.passes.proofs.Passes.{seenOf, seen-le, counts-up}
-use Rattle.replay_order.specs.Copies.{commands, passing, copied, between, counts, Tells, CopiedIf, Copies, Read}
+use Rattle.replay_order.specs.Copies.{commands, passing, copied, between, countIn, Tells, CopiedIf, Copies, ReadAs}
 use Rattle.replay_order.proofs.Reader.{Ahead, from-start, left, onward, length-whole}
 
 -- ---- commands
@@ -122,7 +122,7 @@ pub record Copying (bytes : List ℕ) (es : List Event) (test : ℕ → ℕ → 
   pub counted : (t : ℕ) → t < threads → getD seen t 0 ≡ seenOf gone t
   pub copies : Copies (copied test es i) before start to buffer
 
-module _ {bytes : List ℕ} {es : List Event} (r : Read bytes es) (test : ℕ → ℕ → Bool) (before : List ℕ) (start : ℕ) where
+module _ {bytes : List ℕ} {es : List Event} (r : ReadAs bytes es) (test : ℕ → ℕ → Bool) (before : List ℕ) (start : ℕ) where
   pub begun : (seen : List ℕ) → length seen ≡ threads → ((t : ℕ) → t < threads → getD seen t 0 ≡ 0) → start ≤ length before
       → Copying bytes es test before start seen before start 0 0
   begun seen w z l =
@@ -220,7 +220,7 @@ module _ {bytes : List ℕ} {es : List Event} (r : Read bytes es) (test : ℕ �
       -- whether it passes is told by the stamps
       module _ (above within : Stamp) (tells : Tells test es above within) where
         abbrev lies : Bool
-        lies = between (counts above (e .thread)) (counts within (e .thread)) place-of
+        lies = between (countIn above (e .thread)) (countIn within (e .thread)) place-of
 
         told : test (e .thread) place-of ≡ lies
         told = tells (e .thread) place-of low place-low
@@ -271,7 +271,7 @@ module _ {bytes : List ℕ} {es : List Event} (r : Read bytes es) (test : ℕ �
                 })
 
           -- the event is copied where it passes; t is its thread
-          pub goes-by : (t : ℕ) (wanted : Bool) → t ≡ e .thread → wanted ≡ between (counts above t) (counts within t) (up (getD seen t 0))
+          pub goes-by : (t : ℕ) (wanted : Bool) → t ≡ e .thread → wanted ≡ between (countIn above t) (countIn within t) (up (getD seen t 0))
               → {to-now : ℕ} {after : List ℕ} → CopiedIf wanted part buffer to to-now after
               → Copying bytes es test before start (set seen t (up (getD seen t 0))) after to-now next (i + 1)
           goes-by t wanted z w k = rw z (go wanted (rw z at w) k)

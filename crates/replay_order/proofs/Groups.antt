@@ -26,7 +26,7 @@ use Rattle.clock.specs.declared.Stamp.{Stamp}
 use Rattle.clock.specs.Clocks.{noStamp, higherOf}
 use Rattle.clock.proofs.Entries.{heard-from, heard-length}
 use Rattle.replay_order.specs.Replay.{IsReplay}
-use Rattle.replay_order.specs.Copies.{noEntry, commands, copied, between, counts, Tells, Copies, Read, Listed, StampsTo}
+use Rattle.replay_order.specs.Copies.{noEntry, commands, copied, between, countIn, Tells, Copies, ReadAs, NamedAmong, StampsTo}
 use Rattle.replay_order.proofs.Order.{replay-perm}
 use Rattle.replay_order.proofs.Lengths.{log-commands, log-length, perm-length}
 use Rattle.replay_order.proofs.ByStamps.{groups, Stamped, groups-replay}
@@ -38,7 +38,7 @@ abbrev numberIn : List ℕ → ℕ → ℕ
 numberIn numbers j = getD numbers j 0
 
 abbrev stampIn : List Stamp → ℕ → ℕ → ℕ
-stampIn stamps j = counts (getD stamps j noEntry)
+stampIn stamps j = countIn (getD stamps j noEntry)
 
 -- the first of a list, one after another
 first-are : (xs : List ℕ) (n : ℕ) → n ≤ length xs → map (numberIn xs) (run 0 n) ≡ take n xs
@@ -54,8 +54,8 @@ threads-low : (bytes : List ℕ) {at : ℕ} {es : List Event} → ReadCalls (rea
 threads-low bytes (ReadCalls.more {at = at} {next = n} {a = a} q r) i e first = low-thread bytes at a n (sym q)
 threads-low bytes (ReadCalls.more q r) i e (next m) = threads-low bytes r _ e m
 
-module _ {bytes : List ℕ} {es : List Event} (r : Read bytes es) {numbers : List ℕ} {size n : ℕ} (few : size ≤ slotLimit) (whole : length numbers ≡ slotLimit)
-    (listed : Listed es numbers size n) (stamps : List Stamp) (are : StampsTo es numbers n stamps) where
+module _ {bytes : List ℕ} {es : List Event} (r : ReadAs bytes es) {numbers : List ℕ} {size n : ℕ} (few : size ≤ slotLimit) (whole : length numbers ≡ slotLimit)
+    (listed : NamedAmong es numbers size n) (stamps : List Stamp) (are : StampsTo es numbers n stamps) where
   stamped : Stamped es (numberIn numbers) (stampIn stamps) size 0
   stamped k l u =
       let m = listed .each k (omega arith) in
@@ -81,7 +81,7 @@ module _ {bytes : List ℕ} {es : List Event} (r : Read bytes es) {numbers : Lis
 pub record Grouping (es : List Event) (numbers : List ℕ) (stamps : List Stamp) (size : ℕ) (before : List ℕ) (written : Stamp) (buffer : List ℕ) (at j : ℕ) : Type 0 where
   pub beyond : ℕ → ℕ
   pub sized : length (written .at) ≡ threads
-  pub agrees : (t : ℕ) → t < threads → counts written t ≡ beyond t
+  pub agrees : (t : ℕ) → t < threads → countIn written t ≡ beyond t
   pub done : List Event
   pub whole : done ++ groups es (numberIn numbers) (stampIn stamps) (size - j) j beyond ≡ groups es (numberIn numbers) (stampIn stamps) size 0 (λ t. 0)
   pub copies : Copies done before 0 at buffer
@@ -191,7 +191,7 @@ module _ (es : List Event) (numbers : List ℕ) (stamps : List Stamp) (size : �
 
       pub tells-rest : Tells beyond-all es written (record { at = replicate threads events })
       tells-rest t p u v =
-          rw (← g .agrees t u, getD-replicate threads t events 0 u, le-leb p events (omega arith)) (and-true (ltb (counts written t) p))
+          rw (← g .agrees t u, getD-replicate threads t events 0 u, le-leb p events (omega arith)) (and-true (ltb (countIn written t) p))
         where
           and-true : (b : Bool) → b ≡ b && true
           and-true true = refl

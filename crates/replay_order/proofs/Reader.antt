@@ -20,7 +20,7 @@ use Rattle.command.proofs.Inversion.{Found, decode-found, goes-on, not-closed}
 use Rattle.log.specs.Leading.{Leading}
 use Rattle.log.specs.Calls.{ReadCalls}
 use Rattle.log.proofs.Leading.{Midway, past-it, past-to, within-limits, not-absent}
-use Rattle.replay_order.specs.Copies.{Read}
+use Rattle.replay_order.specs.Copies.{ReadAs}
 
 -- before the event at `at`, some events gone past; behind the others the log ends
 pub record Ahead (bytes : List ℕ) (es gone : List Event) (at : ℕ) : Type 0 where
@@ -33,7 +33,7 @@ module _ (bytes : List ℕ) where
   leading (ReadCalls.more q r) = let l = leading r in (l .0, Leading.more q (l .1), l .2)
 
 module _ {bytes : List ℕ} where
-  pub from-start : {es : List Event} → Read bytes es → Ahead bytes es [] 0
+  pub from-start : {es : List Event} → ReadAs bytes es → Ahead bytes es [] 0
   from-start {es} r =
       let l = leading bytes (r .calls) in
       record { midway = record { rest = es; to = l .0; whole = refl; ahead = l .1 }; ends = l .2 }

@@ -18,7 +18,7 @@ use Rattle.command.specs.Reading.{command, readEvent}
 use Rattle.clock.specs.declared.Stamp.{Stamp}
 use Rattle.clock.specs.Arrivals.{StampOf, ClocksOf, Arrived}
 use Rattle.passes.proofs.Passes.{stamp-stays}
-use Rattle.replay_order.specs.Copies.{Read, noEntry, isOneOf, withStamp, StampsTo}
+use Rattle.replay_order.specs.Copies.{ReadAs, noEntry, isOneOf, withStamp, StampsTo}
 use Rattle.replay_order.proofs.Reader.{Ahead, from-start, left, onward, in-limits}
 
 -- none of the numbers is i
@@ -42,7 +42,7 @@ pub record Stamping (bytes : List ℕ) (es : List Event) (numbers clocks : List 
   pub whole : length stamps ≡ slotLimit
   pub kept : StampsTo gone numbers i stamps
 
-module _ {bytes : List ℕ} {es : List Event} (r : Read bytes es) {numbers : List ℕ} where
+module _ {bytes : List ℕ} {es : List Event} (r : ReadAs bytes es) {numbers : List ℕ} where
   pub begun : {clocks : List ℕ} (stamps : List Stamp) → length stamps ≡ slotLimit → ClocksOf [] clocks → Stamping bytes es numbers clocks stamps 0 0
   begun stamps w h =
       record { gone = []; ahead = from-start r; count = refl; held = h; whole = w; kept = λ j l u v. absurd (let z : ⊥ = omega arith in z) }

@@ -41,12 +41,12 @@ abbrev pub between : ℕ → ℕ → ℕ → Bool
 between low high p = ltb low p && leb p high
 
 -- what a stamp counts of a thread
-abbrev pub counts : Stamp → ℕ → ℕ
-counts s t = getD (s .at) t 0
+abbrev pub countIn : Stamp → ℕ → ℕ
+countIn s t = getD (s .at) t 0
 
 -- a test that says of each thread's places, so far as the log has any, whether they are above one stamp's count and within the other's
 abbrev pub Tells : (ℕ → ℕ → Bool) → List Event → Stamp → Stamp → Type 0
-Tells test es above within = (t p : ℕ) → t < threads → p ≤ length es → test t p ≡ between (counts above t) (counts within t) p
+Tells test es above within = (t p : ℕ) → t < threads → p ≤ length es → test t p ≡ between (countIn above t) (countIn within t) p
 
 -- bytes copied to a place of a buffer where they are wanted and there is room for them, and the place after them; else the buffer stays as it was
 abbrev pub copiedIf : Bool → List ℕ → List ℕ → ℕ → Bool
@@ -56,19 +56,19 @@ pub record CopiedIf (wanted : Bool) (bytes before : List ℕ) (at to : ℕ) (aft
   pub place : to ≡ cond (copiedIf wanted bytes before at) (at + length bytes) at
   pub is : after ≡ cond (copiedIf wanted bytes before at) (put bytes before at) before
 
--- what a pass over the first n events, or over all where the log has no more, leaves in a buffer, and the place after it
+-- the commands of events copied to a place of a buffer: the place after them, and the buffer then, every other byte as it was
 pub record Copies (es : List Event) (before : List ℕ) (start to : ℕ) (after : List ℕ) : Type 0 where
   pub at : to ≡ start + length (commands es)
   pub is : after ≡ put (commands es) before start
 
 -- the events of a log, read from its start to its end: no more than the limit
-pub record Read (bytes : List ℕ) (es : List Event) : Type 0 where
+pub record ReadAs (bytes : List ℕ) (es : List Event) : Type 0 where
   pub bytes-are : Bytes bytes
   pub calls : ReadCalls (readEvent bytes) 0 es
   pub few : length es ≤ events
 
 -- the numbers of the slots' events, so many of them, are among the first n
-pub record Listed (es : List Event) (numbers : List ℕ) (size n : ℕ) : Type 0 where
+pub record NamedAmong (es : List Event) (numbers : List ℕ) (size n : ℕ) : Type 0 where
   pub few : n ≤ length es
   pub each : (j : ℕ) → j < size → (0 < getD numbers j 0) × (getD numbers j 0 ≤ n)
 

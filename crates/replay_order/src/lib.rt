@@ -9,7 +9,7 @@ ghost use Prim.Native.Nat.{ℕ, _+_, _≤_, min};
 ghost use lib.ListN.{length, take};
 ghost use Rattle.event.specs.declared.Event.{Event};
 ghost use Rattle.event.specs.Limits.{slots as slotLimit};
-ghost use Rattle.replay_order.specs.Copies.{Read, Listed, commands, copied, between, Tells, CopiedIf, Copies, isOneOf, withStamp, StampsTo, Replays};
+ghost use Rattle.replay_order.specs.Copies.{ReadAs, NamedAmong, commands, copied, between, Tells, CopiedIf, Copies, isOneOf, withStamp, StampsTo, Replays};
 
 // Writes the replay of a log at the start of a lent buffer, by the numbers of the slots' events, which are among its first n: how many bytes it has.
 pub fn write(
@@ -20,7 +20,7 @@ pub fn write(
     buffer: &mut [u8],
 ) -> usize
     requires { ⌜ size ≤ slotLimit ⌝ }
-    ensures { λ r. ⌜ ((es : List Event) → Read (now (log .entry)) es → Listed es numbers size n → length (now (log .entry)) ≤ length (now (buffer .entry)) → Replays es (take size numbers) (now (buffer .entry)) r (now (buffer .exit))) ⌝ }
+    ensures { λ r. ⌜ ((es : List Event) → ReadAs (now (log .entry)) es → NamedAmong es numbers size n → length (now (log .entry)) ≤ length (now (buffer .entry)) → Replays es (take size numbers) (now (buffer .entry)) r (now (buffer .exit))) ⌝ }
 {
     let stamps = stamps_of(log, n, numbers);
     let mut written = Stamp {
@@ -41,7 +41,7 @@ pub fn write(
 
 // The stamps of those of the first n events that have these numbers, in one pass.
 fn stamps_of(log: &[u8], n: usize, numbers: [u16; event::SLOTS]) -> [Stamp; event::SLOTS]
-    ensures { λ r. ⌜ ((es : List Event) → Read (now (log .entry)) es → n ≤ length es → StampsTo es numbers n r) ⌝ }
+    ensures { λ r. ⌜ ((es : List Event) → ReadAs (now (log .entry)) es → n ≤ length es → StampsTo es numbers n r) ⌝ }
 {
     let none = Stamp {
         at: [0; clock::THREADS],
@@ -111,7 +111,7 @@ fn copy_between(
     buffer: &mut [u8],
     start: usize,
 ) -> usize
-    ensures { λ r. ⌜ ((es : List Event) (test : ℕ → ℕ → Bool) → Read (now (log .entry)) es → Tells test es above within → start + length (commands (copied test es (min n (length es)))) ≤ length (now (buffer .entry)) → Copies (copied test es (min n (length es))) (now (buffer .entry)) start r (now (buffer .exit))) ⌝ }
+    ensures { λ r. ⌜ ((es : List Event) (test : ℕ → ℕ → Bool) → ReadAs (now (log .entry)) es → Tells test es above within → start + length (commands (copied test es (min n (length es)))) ≤ length (now (buffer .entry)) → Copies (copied test es (min n (length es))) (now (buffer .entry)) start r (now (buffer .exit))) ⌝ }
 {
     let mut seen = [0u16; clock::THREADS];
     let mut to = start;

@@ -8,7 +8,7 @@ use Rattle.event.specs.declared.Event.{Event}
 use Rattle.event.specs.Limits.{threads}
 use Rattle.command.specs.Reading.{eventAt}
 use Rattle.command.proofs.WholeCommand.{third}
-use Rattle.replay_order.specs.Copies.{Read, Tells, commands, copied, between}
+use Rattle.replay_order.specs.Copies.{ReadAs, Tells, commands, copied, between}
 use Rattle.replay_order.proofs.Reader.{thread-is, stands-there, is-next, is-end}
 use Rattle.replay_order.proofs.Copying.{low-thread, Copying, begun, goes-by, all-copied, at-the-end}
 use borrow.Author.Needs.{needs}
@@ -18,7 +18,7 @@ use Rattle.replay_order.proofs.copy_between.Tie as tie
 abbrev Inv-loop : tie.InvT-loop
 Inv-loop log n buffer₀ start above within seen₀ to₀ at₀ i₀ buffer seen to at i =
     (i ≤ n) × ((length buffer ≡ length buffer₀)
-    × ((es : List Event) (test : ℕ → ℕ → Bool) → Read log es → Tells test es above within
+    × ((es : List Event) (test : ℕ → ℕ → Bool) → ReadAs log es → Tells test es above within
     → start + length (commands (copied test es (min n (length es)))) ≤ length buffer₀ → Copying log es test buffer₀ start seen buffer to at i))
 
 abbrev μ-loop : tie.MeasureT-loop

@@ -5,7 +5,7 @@ use mathlib.Core.List.{List}
 use lib.ListN.{length}
 use Rattle.event.specs.declared.Event.{Event}
 use Rattle.event.specs.Limits.{slots as slotLimit}
-use Rattle.replay_order.specs.Copies.{Read, Listed}
+use Rattle.replay_order.specs.Copies.{ReadAs, NamedAmong}
 use Rattle.replay_order.proofs.Copying.{copied-there}
 use Rattle.replay_order.proofs.Groups.{Grouping, order, is-replay, fits-in, begun, tells, room, next-group, tells-rest, room-rest, room-closing, closed-log}
 use borrow.Author.Needs.{needs}
@@ -15,7 +15,7 @@ use Rattle.replay_order.proofs.write.Tie as tie
 abbrev Inv-loop : tie.InvT-loop
 Inv-loop log n size buffer₀ numbers stamps written₀ at₀ j₀ t14 buffer written at j =
     (j ≤ size) × ((length buffer ≡ length buffer₀)
-    × ((es : List Event) → Read log es → Listed es numbers size n → length log ≤ length buffer₀ → Grouping es numbers stamps size buffer₀ written buffer at j))
+    × ((es : List Event) → ReadAs log es → NamedAmong es numbers size n → length log ≤ length buffer₀ → Grouping es numbers stamps size buffer₀ written buffer at j))
 
 abbrev μ-loop : tie.MeasureT-loop
 μ-loop log n size buffer₀ numbers stamps written₀ at₀ j₀ t14 buffer written at j = size - j
