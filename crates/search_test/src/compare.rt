@@ -178,8 +178,8 @@ fn none_too_early(t: Truth, numbers: [u16; 5], i: usize) -> bool {
     true
 }
 
-// Whether event a comes before event b or is it, both counted from 1.
-fn comes_before(t: Truth, a: u16, b: u16) -> bool {
+// Whether event a comes before event b or is it, both counted from 1; or one of the numbers is 0.
+pub(crate) fn comes_before(t: Truth, a: u16, b: u16) -> bool {
     if a < 1 {
         return true;
     }

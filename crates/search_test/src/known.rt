@@ -22,7 +22,7 @@ fn orders_of(queue: &mut [u32], seen: &mut [bool], threads: u8) -> u64 {
         Question {
             events: marks(threads),
             count: 7,
-            slots: [mark(8); 5],
+            slots: [mark(8); MOST],
             size: 1,
         },
     );

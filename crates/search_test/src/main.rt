@@ -1,10 +1,12 @@
-// Holds runs, sessions and order queries to a plain search through all orders of many small logs, and prints how many were compared.
+// Holds runs, sessions, replays and order queries to a plain search through all orders of many small logs, and prints how many were compared.
 mod compare;
 mod first;
+mod grouped;
 mod known;
 mod orders;
 mod pairs;
 mod patterns;
+mod replays;
 mod tally;
 mod truth;
 
@@ -78,21 +80,30 @@ fn on_log(
     let sketch = patterns::draw(leading, from);
     let size = patterns::write(pattern, sketch);
     let truth = truth::of(queue, seen, leading, sketch);
-    if size <= pattern.len() {
-        compared(&pattern[..size], log, truth, counts);
-    }
     pairs::of(log, leading, counts);
+    if pattern.len() < size {
+        return sketch.drawn;
+    }
+    compared(queue, seen, &pattern[..size], log, truth, counts);
     sketch.drawn
 }
 
-fn compared(pattern: &[u8], log: &[u8], t: Truth, counts: &mut [u64; COUNTS]) {
+fn compared(
+    queue: &mut [u32],
+    seen: &mut [bool],
+    pattern: &[u8],
+    log: &[u8],
+    t: Truth,
+    counts: &mut [u64; COUNTS],
+) {
     let read = log::read_log(log);
     tally::log(counts, read, t);
     let judged = run::run(pattern, log);
     let agreed = agree(pattern, log, t, read, judged);
     tally::add_if(counts, tally::DISAGREEMENTS, !agreed);
     let first = first::agrees(judged, t, counts);
-    if !(agreed && first) {
+    let replayed = replays::agree(queue, seen, pattern, log, t, judged, counts);
+    if !(agreed && first && replayed) {
         disagreement(pattern, log);
     }
 }

@@ -11,7 +11,7 @@ pub const MARKS: usize = 262144;
 pub struct Question {
     pub events: [u32; MOST],
     pub count: usize,
-    pub slots: [u32; 5],
+    pub slots: [u32; MOST],
     pub size: usize,
 }
 
@@ -122,7 +122,7 @@ fn filled(q: Question, slot: usize, i: usize, event: usize) -> usize {
     if q.count <= i || q.size <= slot {
         return slot;
     }
-    if 5 <= slot {
+    if MOST <= slot {
         return slot;
     }
     if MOST <= event {

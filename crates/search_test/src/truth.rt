@@ -50,9 +50,11 @@ fn of_first(queue: &mut [u32], seen: &mut [bool], l: Leading, k: Sketch, n: usiz
     orders::search(queue, seen, question(l, k, n))
 }
 
-fn question(l: Leading, k: Sketch, n: usize) -> Question {
+// Whether the leading n events have an order that holds the pattern.
+pub(crate) fn question(l: Leading, k: Sketch, n: usize) -> Question {
     let events = l.events;
-    let slots = k.slots;
+    let s = k.slots;
+    let slots = [s[0], s[1], s[2], s[3], s[4], 0, 0, 0];
     Question {
         events,
         count: n,
