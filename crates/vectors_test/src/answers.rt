@@ -47,11 +47,13 @@ fn answer(q: Asked, bytes: &[u8], other: &[u8]) {
         // fit: EVENT | SLOT; slot: EVENT
         b'f' => commands::fit(commands::of(bytes, true), commands::of(other, false)),
         b's' => commands::show_slot(event::slot_of(commands::of(bytes, true))),
-        // order: LOG | FIRST | SECOND; judge: LOG | PATTERN; verdict: LOG | PATTERN; more: EVENT | PATTERN | COUNT
+        // order: LOG | FIRST | SECOND; judge: LOG | PATTERN; verdict: LOG | PATTERN; more: EVENT | PATTERN | COUNT;
+        // play: LOG | PATTERN | ROOM
         b'o' => judged::order(bytes, q.first, q.second),
         b'j' => judged::both(bytes, other),
         b'v' => judged::run(bytes, other),
         b'm' => judged::more(commands::of(bytes, true), other, q.second),
+        b'p' => judged::replay(bytes, other, q.second),
         _ => console::text(b"NO SUCH WORD"),
     }
 }

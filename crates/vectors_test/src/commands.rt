@@ -117,7 +117,7 @@ pub(crate) fn write(e: Event, tall: bool, at: usize, room: usize) {
     let mut buffer = [0xEEu8; 10];
     let w = write_either(&mut buffer[..room], at, e, tall);
     show_written(w);
-    show_buffer(&buffer);
+    show_ten(&buffer);
 }
 
 pub(crate) fn end(at: usize, room: usize) {
@@ -127,7 +127,7 @@ pub(crate) fn end(at: usize, room: usize) {
     let mut buffer = [0xEEu8; 10];
     let w = writer::write_end(&mut buffer[..room], at);
     show_written(w);
-    show_buffer(&buffer);
+    show_ten(&buffer);
 }
 
 fn show_written(w: Written) {
@@ -137,10 +137,15 @@ fn show_written(w: Written) {
     }
 }
 
-fn show_buffer(buffer: &[u8; 10]) {
-    let fresh = [0xEEu8; 10];
+fn show_ten(buffer: &[u8; 10]) {
+    show_buffer(buffer);
+}
+
+// At most 32 bytes, which were EE.
+pub(crate) fn show_buffer(buffer: &[u8]) {
+    let fresh = [0xEEu8; 32];
     console::text(b", buffer");
-    if console::starts_with(buffer, 10, &fresh) {
+    if console::starts_with(&fresh, buffer.len(), buffer) {
         console::text(b" unchanged");
         return;
     }

@@ -1,7 +1,9 @@
-// What order queries, runs and sessions say.
+// What order queries, runs, sessions and replays say.
+use crate::commands;
 use command::Decoded;
 use event::Event;
 use order::Order;
+use run::Judged;
 use run::Outcome;
 use session::Answer;
 use session::Found;
@@ -32,7 +34,27 @@ pub(crate) fn both(log: &[u8], pattern: &[u8]) {
 }
 
 pub(crate) fn run(log: &[u8], pattern: &[u8]) {
-    let judged = run::run(pattern, log);
+    show_judged(run::run(pattern, log));
+}
+
+// Writes the replay into the first `room` of 32 bytes EE, and shows all of them.
+pub(crate) fn replay(log: &[u8], pattern: &[u8], room: usize) {
+    if 32 < room {
+        return;
+    }
+    let mut buffer = [0xEEu8; 32];
+    let r = replay_log::write(pattern, log, &mut buffer[..room]);
+    let judged = r.judged;
+    show_judged(judged);
+    console::numbered(b", length ", r.length as u64);
+    show_all(&buffer);
+}
+
+fn show_all(buffer: &[u8; 32]) {
+    commands::show_buffer(buffer);
+}
+
+fn show_judged(judged: Judged) {
     let outcome = judged.outcome;
     let numbers = judged.numbers;
     show_outcome(outcome);
