@@ -30,7 +30,7 @@ use Rattle.run.specs.declared.Outcome.{Outcome}
 use Rattle.run.specs.declared.Outcome.the-variants.{Match, None, PatternRefused, LogRefused}
 use Rattle.run.specs.Answers.{judgedIs, outcomeIs}
 use Rattle.run.proofs.Outcome.{the-type}
-use Rattle.replay_order.specs.Copies.{ReadAs, NamedAmong, Replays}
+use Rattle.replay_passes.specs.Copies.{ReadAs, NamedAmong, Replays}
 use Rattle.replay_log.specs.declared.Replayed.{Replayed}
 use Rattle.replay_log.specs.Replay.{ReplayOf, tooShort, withoutMatch}
 

@@ -17,7 +17,7 @@ use Rattle.session.specs.Answers.{Ruling}
 use Rattle.session.specs.Meaning.{VerdictOf}
 use Rattle.session.proofs.Demand.{run-over}
 use Rattle.replay_order.proofs.Order.{replay-reached, replay-perm, replay-accepted, replay-holds}
-use Rattle.replay_order.proofs.Lengths.{perm-length, perm-heights}
+use Rattle.replay_passes.proofs.Lengths.{perm-length, perm-heights}
 use Rattle.replay_log.specs.Shows.{IsReplayLog, Shows}
 
 module _ (pattern : List ℕ) (ss : List Slot) (p : readPattern pattern ≡ accepted ss) (read : List ℕ) (b : Bytes read) (es : List Event) (q : readLog read ≡ accepted es)

@@ -27,7 +27,7 @@ pub fn write(pattern: &[u8], log: &[u8], buffer: &mut [u8]) -> Replayed
     }
     let read = log::read_pattern(pattern);
     let p = read.pattern;
-    let length = replay_order::write(log, count, numbers, p.size, buffer);
+    let length = replay_passes::write(log, count, numbers, p.size, buffer);
     Replayed { judged, length }
 }
 

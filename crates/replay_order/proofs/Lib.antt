@@ -1,9 +1,3 @@
--- The replay order, computed; by the stamps of the slots' events; and the passes over a log that write it.
+-- The replay order: computed, reached by swaps, holding the pattern; and two examples.
 pub mod Order
 pub mod Examples
-pub mod Lengths
-pub mod ByStamps
-pub mod Reader
-pub mod Stamping
-pub mod Copying
-pub mod Groups

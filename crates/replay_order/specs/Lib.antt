@@ -1,3 +1,2 @@
--- The replay order, and what the passes that write it copy.
+-- The order in which a match is replayed.
 pub mod Replay
-pub mod Copies

@@ -18,8 +18,8 @@ use Rattle.command.specs.Reading.{command, readEvent}
 use Rattle.clock.specs.declared.Stamp.{Stamp}
 use Rattle.clock.specs.Arrivals.{StampOf, ClocksOf, Arrived}
 use Rattle.passes.proofs.Passes.{stamp-stays}
-use Rattle.replay_order.specs.Copies.{ReadAs, noEntry, isOneOf, withStamp, StampsTo}
-use Rattle.replay_order.proofs.Reader.{Ahead, from-start, left, onward, in-limits}
+use Rattle.replay_passes.specs.Copies.{ReadAs, noEntry, isOneOf, withStamp, StampsTo}
+use Rattle.replay_passes.proofs.Reader.{Ahead, from-start, left, onward, in-limits}
 
 -- none of the numbers is i
 none-of : (numbers : List ℕ) (i n : ℕ) → isOneOf n numbers i ≡ false → (j : ℕ) → j < n → eqb (getD numbers j 0) i ≡ false

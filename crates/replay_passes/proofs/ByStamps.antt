@@ -21,9 +21,9 @@ use Rattle.trace.proofs.Stamps.{before-by-stamp, stamp-unique}
 use Rattle.dependence.specs.Dependence.{dependent}
 use Rattle.dependence.specs.Order.{threadOf, IsStamp}
 use Rattle.dependence.proofs.Dependent.{one-thread}
 use Rattle.replay_order.specs.Replay.{IsReplay}
-use Rattle.replay_order.specs.Copies.{passing, copied, between}
+use Rattle.replay_passes.specs.Copies.{passing, copied, between}
 use Rattle.replay_order.proofs.Order.{comes, decides, replay-iff}
 
 -- ---- lists
 

@@ -1,10 +1,10 @@
 use mathlib.Core.Path.{refl, sym, ap, _∙_}
 use Rattle.writer.specs.Writing.{writtenIs}
-use Rattle.replay_order.proofs.Copying.{put-there, put-refused}
+use Rattle.replay_passes.proofs.Copying.{put-there, put-refused}
 use borrow.Author.Tests.{not-true, not-false}
 use borrow.Author.Needs.{needs}
-use Rattle.replay_order.proofs.copy_if.Statement.{statement}
-use Rattle.replay_order.proofs.copy_if.Tie as tie
+use Rattle.replay_passes.proofs.copy_if.Statement.{statement}
+use Rattle.replay_passes.proofs.copy_if.Tie as tie
 
 returns : tie.Need-returns
 returns c = let f = not-true (c .before .before .before .args .wanted) (c .if1 .taken) in record { place = rw f refl; is = rw f refl }

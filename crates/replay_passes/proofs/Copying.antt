@@ -34,8 +34,8 @@ use Rattle.log.proofs.LogRoundTrip.{events-kind}
 use Rattle.clock.specs.declared.Stamp.{Stamp}
 use Rattle.clock.specs.Clocks.{highestCount, up}
 use Rattle.passes.proofs.Passes.{seenOf, seen-le, counts-up}
-use Rattle.replay_order.specs.Copies.{commands, passing, copied, between, countIn, Tells, CopiedIf, Copies, ReadAs}
-use Rattle.replay_order.proofs.Reader.{Ahead, from-start, left, onward, length-whole}
+use Rattle.replay_passes.specs.Copies.{commands, passing, copied, between, countIn, Tells, CopiedIf, Copies, ReadAs}
+use Rattle.replay_passes.proofs.Reader.{Ahead, from-start, left, onward, length-whole}
 
 -- ---- commands
 

@@ -9,7 +9,7 @@ use lib.ListN.{length, length-append}
 use Rattle.event.specs.declared.Event.{Event}
 use Rattle.command.specs.Commands.{eventBytes, Height, closing}
 use Rattle.log.specs.Whole.{rowBytes, logBytes, Heights}
-use Rattle.replay_order.specs.Copies.{commands}
+use Rattle.replay_passes.specs.Copies.{commands}
 
 -- a log is its commands and the closing 00
 pub log-commands : (es : List Event) → logBytes es ≡ commands es ++ closing

@@ -20,7 +20,7 @@ use Rattle.command.proofs.Inversion.{Found, decode-found, goes-on, not-closed}
 use Rattle.log.specs.Leading.{Leading}
 use Rattle.log.specs.Calls.{ReadCalls}
 use Rattle.log.proofs.Leading.{Midway, past-it, past-to, within-limits, not-absent}
-use Rattle.replay_order.specs.Copies.{ReadAs}
+use Rattle.replay_passes.specs.Copies.{ReadAs}
 
 -- before the event at `at`, some events gone past; behind the others the log ends
 pub record Ahead (bytes : List ℕ) (es gone : List Event) (at : ℕ) : Type 0 where

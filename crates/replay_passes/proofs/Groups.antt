@@ -25,12 +25,12 @@ use Rattle.log.proofs.LogRoundTrip.{events-kind}
 use Rattle.clock.specs.declared.Stamp.{Stamp}
 use Rattle.clock.specs.Clocks.{noStamp, higherOf}
 use Rattle.clock.proofs.Entries.{heard-from, heard-length}
 use Rattle.replay_order.specs.Replay.{IsReplay}
-use Rattle.replay_order.specs.Copies.{noEntry, commands, copied, between, countIn, Tells, Copies, ReadAs, NamedAmong, StampsTo}
+use Rattle.replay_passes.specs.Copies.{noEntry, commands, copied, between, countIn, Tells, Copies, ReadAs, NamedAmong, StampsTo}
 use Rattle.replay_order.proofs.Order.{replay-perm}
-use Rattle.replay_order.proofs.Lengths.{log-commands, log-length, perm-length}
-use Rattle.replay_order.proofs.ByStamps.{groups, Stamped, groups-replay}
-use Rattle.replay_order.proofs.Copying.{commands-append, commands-length, low-thread}
+use Rattle.replay_passes.proofs.Lengths.{log-commands, log-length, perm-length}
+use Rattle.replay_passes.proofs.ByStamps.{groups, Stamped, groups-replay}
+use Rattle.replay_passes.proofs.Copying.{commands-append, commands-length, low-thread}
 
 -- ---- the numbers and the stamps of the slots' events
 

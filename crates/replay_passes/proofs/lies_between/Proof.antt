@@ -1,6 +1,6 @@
 use borrow.Author.Tests.{lt-ltb, le-ltb}
-use Rattle.replay_order.proofs.lies_between.Statement.{statement}
-use Rattle.replay_order.proofs.lies_between.Tie as tie
+use Rattle.replay_passes.proofs.lies_between.Statement.{statement}
+use Rattle.replay_passes.proofs.lies_between.Tie as tie
 
 returns : tie.Need-returns
 returns c = rw (le-ltb _ _ (c .if1 .taken))

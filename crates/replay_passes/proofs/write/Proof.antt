@@ -5,12 +5,12 @@ use mathlib.Core.List.{List}
 use lib.ListN.{length}
 use Rattle.event.specs.declared.Event.{Event}
 use Rattle.event.specs.Limits.{slots as slotLimit}
-use Rattle.replay_order.specs.Copies.{ReadAs, NamedAmong}
-use Rattle.replay_order.proofs.Copying.{copied-there}
-use Rattle.replay_order.proofs.Groups.{Grouping, order, is-replay, fits-in, begun, tells, room, next-group, tells-rest, room-rest, room-closing, closed-log}
+use Rattle.replay_passes.specs.Copies.{ReadAs, NamedAmong}
+use Rattle.replay_passes.proofs.Copying.{copied-there}
+use Rattle.replay_passes.proofs.Groups.{Grouping, order, is-replay, fits-in, begun, tells, room, next-group, tells-rest, room-rest, room-closing, closed-log}
 use borrow.Author.Needs.{needs}
-use Rattle.replay_order.proofs.write.Statement.{statement}
-use Rattle.replay_order.proofs.write.Tie as tie
+use Rattle.replay_passes.proofs.write.Statement.{statement}
+use Rattle.replay_passes.proofs.write.Tie as tie
 
 abbrev Inv-loop : tie.InvT-loop
 Inv-loop log n size buffer₀ numbers stamps written₀ at₀ j₀ t14 buffer written at j =

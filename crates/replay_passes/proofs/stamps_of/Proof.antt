@@ -8,12 +8,12 @@ use Rattle.event.specs.Limits.{slots as slotLimit}
 use Rattle.command.specs.Reading.{eventReadIs}
 use Rattle.clock.specs.declared.Stamp.{Stamp}
 use Rattle.clock.specs.Clocks.{noStamp}
-use Rattle.replay_order.specs.Copies.{ReadAs}
-use Rattle.replay_order.proofs.Reader.{none-left}
-use Rattle.replay_order.proofs.Stamping.{Stamping, begun, stamped-now, passed-now, all-stamped}
+use Rattle.replay_passes.specs.Copies.{ReadAs}
+use Rattle.replay_passes.proofs.Reader.{none-left}
+use Rattle.replay_passes.proofs.Stamping.{Stamping, begun, stamped-now, passed-now, all-stamped}
 use borrow.Author.Needs.{needs}
-use Rattle.replay_order.proofs.stamps_of.Statement.{statement}
-use Rattle.replay_order.proofs.stamps_of.Tie as tie
+use Rattle.replay_passes.proofs.stamps_of.Statement.{statement}
+use Rattle.replay_passes.proofs.stamps_of.Tie as tie
 
 abbrev Inv-loop : tie.InvT-loop
 Inv-loop log n numbers stamps₀ clocks₀ at₀ i₀ stamps clocks at i = (i ≤ n) × ((es : List Event) → ReadAs log es → n ≤ length es → Stamping log es numbers clocks stamps at i)

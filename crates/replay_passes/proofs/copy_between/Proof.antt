@@ -8,12 +8,12 @@ use Rattle.event.specs.declared.Event.{Event}
 use Rattle.event.specs.Limits.{threads}
 use Rattle.command.specs.Reading.{eventAt}
 use Rattle.command.proofs.WholeCommand.{third}
-use Rattle.replay_order.specs.Copies.{ReadAs, Tells, commands, copied, between}
-use Rattle.replay_order.proofs.Reader.{thread-is, stands-there, is-next, is-end}
-use Rattle.replay_order.proofs.Copying.{low-thread, Copying, begun, goes-by, all-copied, at-the-end}
+use Rattle.replay_passes.specs.Copies.{ReadAs, Tells, commands, copied, between}
+use Rattle.replay_passes.proofs.Reader.{thread-is, stands-there, is-next, is-end}
+use Rattle.replay_passes.proofs.Copying.{low-thread, Copying, begun, goes-by, all-copied, at-the-end}
 use borrow.Author.Needs.{needs}
-use Rattle.replay_order.proofs.copy_between.Statement.{statement}
-use Rattle.replay_order.proofs.copy_between.Tie as tie
+use Rattle.replay_passes.proofs.copy_between.Statement.{statement}
+use Rattle.replay_passes.proofs.copy_between.Tie as tie
 
 abbrev Inv-loop : tie.InvT-loop
 Inv-loop log n buffer₀ start above within seen₀ to₀ at₀ i₀ buffer seen to at i =

@@ -1,0 +1,2 @@
+-- What the passes that write a replay copy.
+pub mod Copies

@@ -1,0 +1,164 @@
+// The replay order of a log, by the events that a match names: written group by group, each command as it stands.
+use clock::Stamp;
+use command::EventRead;
+use writer::Written;
+ghost use mathlib.Core.Path.{_≡_};
+ghost use mathlib.Core.Bool.{Bool, cond};
+ghost use mathlib.Core.List.{List};
+ghost use Prim.Native.Nat.{ℕ, _+_, _≤_, min};
+ghost use lib.ListN.{length, take};
+ghost use Rattle.event.specs.declared.Event.{Event};
+ghost use Rattle.event.specs.Limits.{slots as slotLimit};
+ghost use Rattle.replay_passes.specs.Copies.{ReadAs, NamedAmong, commands, copied, between, Tells, CopiedIf, Copies, isOneOf, withStamp, StampsTo, Replays};
+
+// Writes the replay of a log at the start of a lent buffer, by the numbers of the slots' events, which are among its first n: how many bytes it has.
+pub fn write(
+    log: &[u8],
+    n: usize,
+    numbers: [u16; event::SLOTS],
+    size: usize,
+    buffer: &mut [u8],
+) -> usize
+    requires { ⌜ size ≤ slotLimit ⌝ }
+    ensures { λ r. ⌜ ((es : List Event) → ReadAs (now (log .entry)) es → NamedAmong es numbers size n → length (now (log .entry)) ≤ length (now (buffer .entry)) → Replays es (take size numbers) (now (buffer .entry)) r (now (buffer .exit))) ⌝ }
+{
+    let stamps = stamps_of(log, n, numbers);
+    let mut written = Stamp {
+        at: [0; clock::THREADS],
+    };
+    let mut at: usize = 0;
+    for j in 0..size {
+        let stamp = stamps[j];
+        at = copy_between(log, numbers[j] as usize, written, stamp, buffer, at);
+        written = clock::join(written, stamp);
+    }
+    let all = Stamp {
+        at: [65535; clock::THREADS],
+    };
+    let end = copy_between(log, event::EVENTS, written, all, buffer, at);
+    copy_if(true, buffer, end, &[0])
+}
+
+// The stamps of those of the first n events that have these numbers, in one pass.
+fn stamps_of(log: &[u8], n: usize, numbers: [u16; event::SLOTS]) -> [Stamp; event::SLOTS]
+    ensures { λ r. ⌜ ((es : List Event) → ReadAs (now (log .entry)) es → n ≤ length es → StampsTo es numbers n r) ⌝ }
+{
+    let none = Stamp {
+        at: [0; clock::THREADS],
+    };
+    let mut stamps = [none; event::SLOTS];
+    let mut clocks = clock::fresh();
+    let mut at: usize = 0;
+    let mut i: usize = 0;
+    while i < n {
+        let read = command::read_event(log, at);
+        let EventRead::Event { event, next } = read else {
+            return stamps;
+        };
+        i += 1;
+        let stamp = clock::advance(&mut clocks, event);
+        // The stamps are copied in this branch alone, and not with every event.
+        if is_one_of(numbers, i) {
+            let kept = with_stamp(stamps, numbers, i, stamp);
+            stamps = kept;
+        }
+        at = next;
+    }
+    stamps
+}
+
+// Whether one of the numbers is i.
+fn is_one_of(numbers: [u16; event::SLOTS], i: usize) -> bool
+    ensures { λ r. ⌜ r ≡ isOneOf slotLimit numbers i ⌝ }
+{
+    let mut found = false;
+    for j in 0..event::SLOTS {
+        found = (numbers[j] as usize == i) | found;
+    }
+    found
+}
+
+// The stamps, with that of event number i for each slot that has this number.
+fn with_stamp(
+    stamps: [Stamp; event::SLOTS],
+    numbers: [u16; event::SLOTS],
+    i: usize,
+    stamp: Stamp,
+) -> [Stamp; event::SLOTS]
+    ensures { λ r. ⌜ r ≡ withStamp i stamp numbers stamps ⌝ }
+{
+    let mut r = stamps;
+    for j in 0..event::SLOTS {
+        let x = either(numbers[j] as usize == i, stamp, r[j]);
+        r[j] = x;
+    }
+    r
+}
+
+fn either(b: bool, x: Stamp, y: Stamp) -> Stamp
+    ensures { λ r. ⌜ r ≡ cond b x y ⌝ }
+{
+    if b { x } else { y }
+}
+
+// Copies those of the first n events whose place in their thread is above the one stamp's count and within the other's, from a place of the buffer on:
+// the place after them.
+fn copy_between(
+    log: &[u8],
+    n: usize,
+    above: Stamp,
+    within: Stamp,
+    buffer: &mut [u8],
+    start: usize,
+) -> usize
+    ensures { λ r. ⌜ ((es : List Event) (test : ℕ → ℕ → Bool) → ReadAs (now (log .entry)) es → Tells test es above within → start + length (commands (copied test es (min n (length es)))) ≤ length (now (buffer .entry)) → Copies (copied test es (min n (length es))) (now (buffer .entry)) start r (now (buffer .exit))) ⌝ }
+{
+    let mut seen = [0u16; clock::THREADS];
+    let mut to = start;
+    let mut at: usize = 0;
+    let mut i: usize = 0;
+    while i < n {
+        let next = command::next_at(log, at);
+        if next == at {
+            return to;
+        }
+        // A log that was judged has no thread above the limit.
+        let t = log[at + 1] as usize;
+        if t >= clock::THREADS {
+            return to;
+        }
+        let place = clock::next_count(seen[t], true);
+        seen[t] = place;
+        let passes = lies_between(above.at[t], within.at[t], place);
+        to = copy_if(passes, buffer, to, &log[at..next]);
+        at = next;
+        i += 1;
+    }
+    to
+}
+
+fn lies_between(low: u16, high: u16, place: u16) -> bool
+    ensures { λ r. ⌜ r ≡ between low high place ⌝ }
+{
+    if place <= low {
+        return false;
+    }
+    place <= high
+}
+
+// Copies bytes to a place of the buffer where it is wanted and there is room for them: the place after them.
+fn copy_if(wanted: bool, buffer: &mut [u8], at: usize, bytes: &[u8]) -> usize
+    ensures { λ r. ⌜ CopiedIf wanted (now (bytes .entry)) (now (buffer .entry)) at r (now (buffer .exit)) ⌝ }
+{
+    if !wanted {
+        return at;
+    }
+    let put = writer::put(buffer, at, bytes, bytes.len());
+    match put {
+        Written::Next { at: next } => next,
+        Written::Refused {
+            number: _,
+            offset: _,
+        } => at,
+    }
+}
