@@ -32,6 +32,7 @@ pub fn write(
         at = copy_between(log, numbers[j] as usize, written, stamp, buffer, at);
         written = clock::join(written, stamp);
     }
+    // No place is above the highest count: the rest is all that lies above what is written.
     let all = Stamp {
         at: [65535; clock::THREADS],
     };
