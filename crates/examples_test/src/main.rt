@@ -1,10 +1,12 @@
-// Lists each example folder that its arguments name, and says whether the text is the one in the folder's file `printed`.
+// Lists each example folder that its arguments name, and says whether the text is the one in the folder's file `printed`; and whether a file that
+// is saved is read again.
 use writer::Written;
 
 const NAMES: usize = 64;
 
 fn main() {
     no_match();
+    saved();
     examples();
 }
 
@@ -23,6 +25,17 @@ fn no_match() {
     let written = listing_text::write(b"\x07\x00\x01\x00\x00", b"\x00", &mut page);
     io::write_all(1, &listing_text::NO_MATCH);
     verdict(holds(written, &page, &listing_text::NO_MATCH));
+}
+
+// A file that is saved over an older one has the new bytes; where there is no folder for it nothing is saved.
+fn saved() {
+    let mut space = [0u8; NAMES];
+    let older = files::save(b"saved", b"an older text");
+    let newer = files::save(b"saved", b"a text");
+    let nowhere = files::save(b"no_folder/saved", b"a text");
+    let k = files::read(b".", b"/saved", &mut space);
+    io::write_all(1, b"a file saved");
+    verdict(older & newer & !nowhere & console::starts_with(&space, k, b"a text"));
 }
 
 // The example whose folder is the n-th argument.
