@@ -1,5 +1,5 @@
 // Lists each example folder that its arguments name, and says whether the text is the one in the folder's file `printed`; and whether a file that
-// is saved is read again.
+// is saved, and a replay, are read again as they should be.
 use writer::Written;
 
 const NAMES: usize = 64;
@@ -7,6 +7,7 @@ const NAMES: usize = 64;
 fn main() {
     no_match();
     saved();
+    replayed(b"panel");
     examples();
 }
 
@@ -36,6 +37,27 @@ fn saved() {
     let k = files::read(b".", b"/saved", &mut space);
     io::write_all(1, b"a file saved");
     verdict(older & newer & !nowhere & console::starts_with(&space, k, b"a text"));
+}
+
+// What is saved as the replay of an example is what its file `replayed` has.
+fn replayed(folder: &[u8]) {
+    let mut pattern = [0u8; NAMES];
+    let mut log = [0u8; NAMES];
+    let sizes = files::read_both(folder, &mut pattern, &mut log);
+    let p = sizes.pattern;
+    let l = sizes.log;
+    let made = files::save_replay(&pattern[..p], &log[..l]);
+    io::write_all(1, folder);
+    io::write_all(1, b" replayed");
+    verdict(made & replay_is(folder));
+}
+
+fn replay_is(folder: &[u8]) -> bool {
+    let mut due = [0u8; NAMES];
+    let mut space = [0u8; NAMES];
+    let n = files::read(folder, b"/replayed", &mut due);
+    let k = files::read(b".", b"/replay.bin", &mut space);
+    console::starts_with(&space, k, &due[..n])
 }
 
 // The example whose folder is the n-th argument.

@@ -1,5 +1,6 @@
 // Files by their names, for the programs: a folder's two files read and listed, a text printed, a file written whole.
 // What the system reads and writes is assumed and not proved.
+use run::Outcome;
 use writer::Written;
 ghost use Prim.Native.Nat.{ℕ, _≤_};
 ghost use mathlib.Core.Path.{_≡_};
@@ -58,6 +59,25 @@ fn read_opened(opened: bool, fd: i32, space: &mut [u8]) -> usize
     let n = io::read_full(fd, space);
     libc::close(fd);
     n
+}
+
+// Writes replay.bin, the log that shows the match, where there is one, and answers whether that went well. What is too long is not judged.
+pub fn save_replay(pattern: &[u8], log: &[u8]) -> bool {
+    if listing_text::LONGEST < pattern.len() {
+        return true;
+    }
+    if listing_text::LONGEST < log.len() {
+        return true;
+    }
+    let mut buffer = [0u8; listing_text::SPACE];
+    let replayed = replay_log::write(pattern, log, &mut buffer);
+    let judged = replayed.judged;
+    let outcome = judged.outcome;
+    let size = replayed.length;
+    let Outcome::Match { count: _ } = outcome else {
+        return true;
+    };
+    save(b"replay.bin", &buffer[..size])
 }
 
 // Makes the file of this name anew, or replaces it whole, and answers whether it did. Where it did not, what had the name still has it,

@@ -1,7 +1,5 @@
 // On a match writes replay.bin, a log that shows it; then prints the listing of pattern.bin and log.bin. All three are in the folder where
 // it is run.
-use run::Outcome;
-
 fn main() {
     if 1 < os::arg_count() {
         files::print(b"replay", b"usage: replay\n");
@@ -17,30 +15,11 @@ fn main() {
 
 // What is printed says that the file is there, so a file that can't be written leaves nothing to print.
 fn replay(pattern: &[u8], log: &[u8]) {
-    if save(pattern, log) {
+    if files::save_replay(pattern, log) {
         print(pattern, log);
     } else {
         os::fail(b"replay.bin");
     }
-}
-
-// Writes the file where there is one to write, and answers whether that went well. What is too long is not judged.
-fn save(pattern: &[u8], log: &[u8]) -> bool {
-    if listing_text::LONGEST < pattern.len() {
-        return true;
-    }
-    if listing_text::LONGEST < log.len() {
-        return true;
-    }
-    let mut buffer = [0u8; listing_text::SPACE];
-    let replayed = replay_log::write(pattern, log, &mut buffer);
-    let judged = replayed.judged;
-    let outcome = judged.outcome;
-    let size = replayed.length;
-    let Outcome::Match { count: _ } = outcome else {
-        return true;
-    };
-    files::save(b"replay.bin", &buffer[..size])
 }
 
 fn print(pattern: &[u8], log: &[u8]) {

@@ -1,10 +1,10 @@
--- `replay::save` is safe and ends: what was written of the replay lies within the buffer.
+-- `files::save_replay` is safe and ends: what was written of the replay lies within the buffer.
 use mathlib.Core.Path.{sym}
 use lib.Seq.{length-take-le}
 use Rattle.replay_log.proofs.Calling.{replay-within}
 use borrow.Author.Needs.{needs}
-use Rattle.replay.proofs.save.Statement.{statement}
-use Rattle.replay.proofs.save.Tie as tie
+use Rattle.files.proofs.save_replay.Statement.{statement}
+use Rattle.files.proofs.save_replay.Tie as tie
 
 array-share-prefix-buffer : tie.Need-array-share-prefix-buffer
 array-share-prefix-buffer c = replay-within (c .before .before .before .before .before .write .ensures)
@@ -12,8 +12,8 @@ array-share-prefix-buffer c = replay-within (c .before .before .before .before .
 slice-aggregate-save-2 : tie.Need-slice-aggregate-save-2
 slice-aggregate-save-2 c = sym (length-take-le _ _ (replay-within (c .before .before .before .before .before .before .write .ensures)))
 
-pub save-spec : {M : Type 1} → statement M
-save-spec =
+pub save-replay-spec : {M : Type 1} → statement M
+save-replay-spec =
     tie.close
     (tie.spec
     (λ c. search needs)
