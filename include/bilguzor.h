@@ -51,7 +51,7 @@ extern "C" {
 #endif
 
 /* Raised whenever an answer or the layout of a session changes; bilguzor_version gives that of the library that is linked. */
-#define BILGUZOR_VERSION 3
+#define BILGUZOR_VERSION 4
 
 #define BILGUZOR_SLOTS 5
 
@@ -73,11 +73,15 @@ enum bilguzor_operation {
 
 /* The field `kind` of an answer. */
 enum bilguzor_kind {
-    BILGUZOR_NO = 0, /* no order holds the pattern; or: the first event does not come before the second */
-    BILGUZOR_YES = 1, /* some order holds the pattern; or: the first event comes before the second or is it */
+    BILGUZOR_NO = 0, /* no order holds the pattern */
+    BILGUZOR_YES = 1, /* some order holds the pattern */
     BILGUZOR_PATTERN_REFUSED = 2,
     BILGUZOR_LOG_REFUSED = 3,
-    BILGUZOR_QUERY_REFUSED = 4
+    BILGUZOR_QUERY_REFUSED = 4,
+    BILGUZOR_SAME = 5, /* one event, asked twice */
+    BILGUZOR_BEFORE = 6, /* the first event comes before the second */
+    BILGUZOR_AFTER = 7, /* the second event comes before the first */
+    BILGUZOR_FREE = 8 /* neither comes before the other */
 };
 
 /* What a run, or a session so far, has found. 32 bytes. */
@@ -96,9 +100,9 @@ typedef struct bilguzor_replayed {
     size_t length; /* with a match, how many bytes are written, which is the size of the log; else 0 */
 } bilguzor_replayed;
 
-/* Whether one event of a log comes before another. 16 bytes. */
+/* How one event of a log stands to another. 16 bytes. */
 typedef struct bilguzor_ordering {
-    uint8_t kind; /* BILGUZOR_NO, BILGUZOR_YES, BILGUZOR_LOG_REFUSED or BILGUZOR_QUERY_REFUSED */
+    uint8_t kind; /* BILGUZOR_SAME, BILGUZOR_BEFORE, BILGUZOR_AFTER, BILGUZOR_FREE, BILGUZOR_LOG_REFUSED or BILGUZOR_QUERY_REFUSED */
     uint8_t number; /* of the refusal; 0 without one */
     size_t offset; /* of the refusal; 0 without one */
 } bilguzor_ordering;
@@ -144,8 +148,10 @@ bilguzor_judgement bilguzor_run(const uint8_t *pattern, size_t pattern_size, con
 bilguzor_replayed bilguzor_replay(
     const uint8_t *pattern, size_t pattern_size, const uint8_t *log, size_t log_size, uint8_t *buffer, size_t buffer_size);
 
-/* Whether event number `first` of the log, counted from 1, comes before event number `second` or is it. A refused log answers BILGUZOR_LOG_REFUSED
- * (3 to 14); a number that no event of the log has then BILGUZOR_QUERY_REFUSED (16). */
+/* How event number `first` of the log, counted from 1, stands to event number `second`: BILGUZOR_SAME where the numbers are equal; BILGUZOR_BEFORE
+ * where a chain of events rising in the log, each dependent on the next, leads from the first to the second; BILGUZOR_AFTER where one leads from the
+ * second to the first; else BILGUZOR_FREE. A refused log answers BILGUZOR_LOG_REFUSED (3 to 14); a number that no event of the log has then
+ * BILGUZOR_QUERY_REFUSED (16). */
 bilguzor_ordering bilguzor_order(const uint8_t *log, size_t log_size, size_t first, size_t second);
 
 /* Opens a session on a pattern. A refused pattern (1 to 8) still gives a session, on the lone slot thread 0, mark 0. */

@@ -1,5 +1,5 @@
 // The functions of the proved static library, declared as its C header has them, with one safe wrapper each.
-use crate::verdict::{found, Judged, Outcome, Refusal, SLOTS};
+use crate::verdict::{found, Judged, Outcome, Refusal, Relation, SLOTS};
 
 #[repr(C)]
 struct Judgement {
@@ -105,13 +105,15 @@ pub fn replay(pattern: &[u8], log: &[u8], buffer: &mut [u8]) -> (Judged, usize) 
     (judged(replayed.judgement), replayed.length)
 }
 
-/// Whether event `first` of the log comes before event `second` or is it.
-pub fn order(log: &[u8], first: usize, second: usize) -> Result<bool, Refusal> {
+/// How event `first` of the log stands to event `second`.
+pub fn order(log: &[u8], first: usize, second: usize) -> Result<Relation, Refusal> {
     // Safe: the slice is lent for the call with its length, and the library only reads it.
     let answer = unsafe { bilguzor_order(log.as_ptr(), log.len(), first, second) };
     match answer.kind {
-        0 => Ok(false),
-        1 => Ok(true),
+        5 => Ok(Relation::Same),
+        6 => Ok(Relation::Before),
+        7 => Ok(Relation::After),
+        8 => Ok(Relation::Free),
         _ => Err(Refusal { number: answer.number, offset: answer.offset }),
     }
 }

@@ -1,4 +1,4 @@
-// What a contestant answers about a pattern and a log.
+// What a contestant answers about a pattern and a log, and an order query about a log.
 
 pub const THREADS: usize = 8;
 pub const SLOTS: usize = 5;
@@ -17,6 +17,15 @@ pub enum Outcome {
     None,
     PatternRefused(Refusal),
     LogRefused(Refusal),
+}
+
+/// How one event of a log stands to another.
+#[derive(Clone, Copy, PartialEq, Eq, Debug)]
+pub enum Relation {
+    Same,
+    Before,
+    After,
+    Free,
 }
 
 /// The outcome, with the event named for each slot (0 where there is none).

@@ -21,11 +21,12 @@ static void print_judgement(const char *what, bilguzor_judgement j)
 
 static void print_ordering(const char *what, bilguzor_ordering o)
 {
-    if (o.kind == BILGUZOR_YES || o.kind == BILGUZOR_NO) {
-        printf("%s: %s\n", what, o.kind == BILGUZOR_YES ? "yes" : "no");
-    } else {
-        const char *whose = o.kind == BILGUZOR_LOG_REFUSED ? "log" : "query";
-        printf("%s: %s refused %u at %zu\n", what, whose, o.number, o.offset);
+    switch (o.kind) {
+    case BILGUZOR_SAME: printf("%s: same\n", what); break;
+    case BILGUZOR_BEFORE: printf("%s: before\n", what); break;
+    case BILGUZOR_AFTER: printf("%s: after\n", what); break;
+    case BILGUZOR_FREE: printf("%s: free\n", what); break;
+    default: printf("%s: %s refused %u at %zu\n", what, o.kind == BILGUZOR_LOG_REFUSED ? "log" : "query", o.number, o.offset);
     }
 }
 
@@ -109,11 +110,12 @@ static void orders(void)
 {
     /* thread 0 writes variable 3, thread 1 reads it, thread 1 marks 5 */
     static const uint8_t log[] = { 2, 0, 3, 0, 0, 0, 0, 1, 1, 3, 7, 1, 5, 0, 0 };
-    print_ordering("1 before 3", bilguzor_order(log, sizeof log, 1, 3));
-    print_ordering("3 before 1", bilguzor_order(log, sizeof log, 3, 1));
-    print_ordering("1 before 2, independent", bilguzor_order(sign_log, sizeof sign_log, 1, 2));
-    print_ordering("1 before 4", bilguzor_order(log, sizeof log, 1, 4));
-    print_ordering("1 before 2", bilguzor_order(held_log, sizeof held_log, 1, 2));
+    print_ordering("1 and 3", bilguzor_order(log, sizeof log, 1, 3));
+    print_ordering("3 and 1", bilguzor_order(log, sizeof log, 3, 1));
+    print_ordering("2 and 2", bilguzor_order(log, sizeof log, 2, 2));
+    print_ordering("1 and 2, independent", bilguzor_order(sign_log, sizeof sign_log, 1, 2));
+    print_ordering("1 and 4", bilguzor_order(log, sizeof log, 1, 4));
+    print_ordering("1 and 2", bilguzor_order(held_log, sizeof held_log, 1, 2));
 }
 
 int main(void)

@@ -84,12 +84,16 @@ extern "C" {
     fn bilguzor_version() -> u32;
 }
 
-const VERSION: u32 = 3;
+const VERSION: u32 = 4;
 
 const NO: u8 = 0;
 const YES: u8 = 1;
 const PATTERN_REFUSED: u8 = 2;
 const LOG_REFUSED: u8 = 3;
+const SAME: u8 = 5;
+const BEFORE: u8 = 6;
+const AFTER: u8 = 7;
+const FREE: u8 = 8;
 
 const WRITE: u32 = 2;
 const RELEASE: u32 = 4;
@@ -152,8 +156,10 @@ fn print_judgement(what: &str, j: &Judgement) {
 
 fn print_ordering(what: &str, o: &Ordering) {
     match o.kind {
-        YES => println!("{what}: yes"),
-        NO => println!("{what}: no"),
+        SAME => println!("{what}: same"),
+        BEFORE => println!("{what}: before"),
+        AFTER => println!("{what}: after"),
+        FREE => println!("{what}: free"),
         kind => {
             let whose = if kind == LOG_REFUSED { "log" } else { "query" };
             println!("{what}: {whose} refused {} at {}", o.number, o.offset);
@@ -232,11 +238,12 @@ fn replays() {
 fn orders() {
     // thread 0 writes variable 3, thread 1 reads it, thread 1 marks 5
     let log = [2, 0, 3, 0, 0, 0, 0, 1, 1, 3, 7, 1, 5, 0, 0];
-    print_ordering("1 before 3", &order(&log, 1, 3));
-    print_ordering("3 before 1", &order(&log, 3, 1));
-    print_ordering("1 before 2, independent", &order(&SIGN_LOG, 1, 2));
-    print_ordering("1 before 4", &order(&log, 1, 4));
-    print_ordering("1 before 2", &order(&HELD_LOG, 1, 2));
+    print_ordering("1 and 3", &order(&log, 1, 3));
+    print_ordering("3 and 1", &order(&log, 3, 1));
+    print_ordering("2 and 2", &order(&log, 2, 2));
+    print_ordering("1 and 2, independent", &order(&SIGN_LOG, 1, 2));
+    print_ordering("1 and 4", &order(&log, 1, 4));
+    print_ordering("1 and 2", &order(&HELD_LOG, 1, 2));
 }
 
 fn main() {

@@ -10,15 +10,16 @@ use Rattle.session.specs.declared.Found.the-variants as found
 use Rattle.run.specs.declared.Outcome.{Outcome}
 use Rattle.run.specs.declared.Outcome.the-variants as outcome
 use Rattle.replay_log.specs.Replay.{ReplayOf}
-use Rattle.order.specs.Query.{Answers, yes, no, log-refused, query-refused}
-use Rattle.order.specs.Query as order
+use Rattle.relation.specs.declared.Relation.{Relation}
+use Rattle.relation.specs.declared.Relation.the-variants.{Same, Before, After, Free}
+use Rattle.order_query.specs.Query.{OrderAnswer, related, log-refused, query-refused, Answers}
 use Rattle.bilguzor.specs.declared.Judgement.{Judgement}
 use Rattle.bilguzor.specs.declared.Replayed.{Replayed}
 use Rattle.bilguzor.specs.declared.Ordering.{Ordering}
 
 -- the header's number of this library's answers and layouts
 abbrev pub version : ℕ
-version = 3
+version = 4
 
 -- The kinds: 0 none, 1 a match, 2 the pattern is refused, 3 the log is refused.
 abbrev pub kindOf : Refused → Bool → ℕ
@@ -55,15 +56,21 @@ pub record ReplayNumbers (pattern log before : List ℕ) (r : Replayed) (after :
   pub replay : ReplayOf pattern log before given (r .length) after
   pub numbers : r .judgement ≡ judgementOf given
 
--- The kinds: 0 no, 1 yes, 3 the log is refused, 4 the query is refused.
-abbrev pub orderingOf : order.OrderAnswer → Ordering
-orderingOf no = record { kind = 0; number = 0; offset = 0 }
-orderingOf yes = record { kind = 1; number = 0; offset = 0 }
+-- The kinds: 5 same, 6 before, 7 after, 8 free.
+abbrev pub relationKind : Relation → ℕ
+relationKind Same = 5
+relationKind Before = 6
+relationKind After = 7
+relationKind Free = 8
+
+-- The kinds: those, 3 the log is refused, 4 the query is refused.
+abbrev pub orderingOf : OrderAnswer → Ordering
+orderingOf (related r) = record { kind = relationKind r; number = 0; offset = 0 }
 orderingOf (log-refused k o) = record { kind = 3; number = k; offset = o }
 orderingOf (query-refused k o) = record { kind = 4; number = k; offset = o }
 
--- "An order query takes a log and two event numbers and answers yes or no.": its outcome, in numbers
+-- "An order query takes a log and two event numbers": its outcome, in numbers
 pub record OrderNumbers (log : List ℕ) (first second : ℕ) (r : Ordering) : Type 0 where
-  pub outcome : order.OrderAnswer
+  pub outcome : OrderAnswer
   pub answers : Answers log first second outcome
   pub numbers : r ≡ orderingOf outcome

@@ -5,4 +5,4 @@ pub mod Entries
 pub mod Channels
 pub mod Highest
 pub mod History
-pub mod OrderQuery
+pub mod Later

@@ -1,9 +1,9 @@
 -- The stamp that the clocks give an event, and what they are once it has arrived, for every list of entries and every event.
 -- Assumes nothing.
 use Prim.Native.Nat.{ℕ, _+_, max}
-use mathlib.Core.Bool.{Bool, cond, _&&_}
+use mathlib.Core.Bool.{Bool, cond}
 use mathlib.Core.List.{List}
-use lib.Dec.{eqb, leb, ltb}
+use lib.Dec.{eqb, ltb}
 use lib.ListN.{getD, replicate}
 use Rattle.event.specs.declared.Event.{Event}
 use Rattle.event.specs.Limits.{threads}
@@ -82,9 +82,3 @@ higherOf a b = heardFrom a (b .at) 0
 -- how many events of the thread t a stamp counts; 0 where there is no such thread
 abbrev pub countOf : ℕ → Stamp → ℕ
 countOf t s = cond (ltb t threads) (getD (s .at) t 0) 0
-
--- ---- an order query
-
--- the event that was number `place` of the thread t, counted from 1, comes before the one stamped `later` or is it
-abbrev pub comesBefore : ℕ → ℕ → Stamp → Bool
-comesBefore t place later = ltb t threads && leb place (getD (later .at) t 0)

@@ -14,7 +14,7 @@ ghost use Rattle.event.specs.Range.{rangeRefusal};
 ghost use Rattle.event.specs.Effects.{touches};
 ghost use Rattle.dependence.specs.Channels.{thread, readsOf, writesOf, lockOf};
 ghost use Rattle.clock.specs.Rows.{size, rowOf, besideOf, rowsFor};
-ghost use Rattle.clock.specs.Clocks.{up, tickedAt, heardFrom, toldTo, heard, stampBy, clocksAfter, higherOf, countOf, comesBefore};
+ghost use Rattle.clock.specs.Clocks.{up, tickedAt, heardFrom, toldTo, heard, stampBy, clocksAfter, higherOf, countOf};
 ghost use Rattle.clock.specs.Arrivals.{ClocksOf, Arrived};
 
 // A row has an entry for each thread. There is a row for each thread, for the reads and for the writes of each variable, and for each lock.
@@ -219,14 +219,4 @@ pub fn count_of(thread: u8, s: Stamp) -> u16
         return 0;
     }
     s.at[i]
-}
-
-// Whether the event that was number `place` of its thread, counted from 1, comes before the one stamped `later` or is it.
-pub fn comes_before(thread: u8, place: u16, later: Stamp) -> bool
-    ensures { λ r. ⌜ r ≡ comesBefore thread place later ⌝ }
-{
-    if thread >= event::THREADS {
-        return false;
-    }
-    place <= count_of(thread, later)
 }

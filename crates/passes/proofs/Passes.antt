@@ -29,7 +29,7 @@ use Rattle.trace.proofs.FirstArrivals.{seen, seen-snoc, place-seen}
 use Rattle.clock.specs.declared.Stamp.{Stamp}
 use Rattle.clock.specs.Clocks.{highestCount, up, stampBy, clocksAfter}
 use Rattle.clock.specs.Arrivals.{StampOf, ClocksOf}
-use Rattle.clock.proofs.OrderQuery.{count-stays}
+use Rattle.clock.proofs.Later.{count-stays}
 use Rattle.command.specs.Reading.{command, readEvent}
 use Rattle.log.proofs.Leading.{Midway, at-start, past-it, within-limits}
 use Rattle.passes.specs.LastPlaces.{lastBy}

@@ -1,10 +1,20 @@
-// Every pair of event numbers of a drawn log asked of the order query, and held to a plain computation of the chain.
+// Every pair of event numbers of a drawn log asked of the order query, and held to a plain computation of the chain, both ways round.
 use crate::tally;
 use crate::tally::COUNTS;
 use crate::tally::PAIRS;
 use log::LogRead;
-use order::Order;
+use order_query::Order;
 use plain::Leading;
+use relation::Relation;
+
+// The answers as numbers; those above are refusals.
+const SAME: u64 = 0;
+
+const BEFORE: u64 = 1;
+
+const AFTER: u64 = 2;
+
+const FREE: u64 = 3;
 
 // Numbers 0 to 8: no log has more than seven events.
 pub(crate) fn of(log: &[u8], l: Leading, counts: &mut [u64; COUNTS]) {
@@ -12,32 +22,43 @@ pub(crate) fn of(log: &[u8], l: Leading, counts: &mut [u64; COUNTS]) {
     let before = plain::relation(events);
     let read = log::read_log(log);
     for k in 0..81 {
-        let answer = answer_number(order::query(log, k / 9, k % 9));
+        let answer = answer_number(order_query::query(log, k / 9, k % 9));
         let right = answer == due(read, &before, k / 9, k % 9);
-        count(counts, answer == 1, direct(l, k / 9, k % 9), right);
+        count(counts, answer, direct(l, k / 9, k % 9), right);
     }
 }
 
-// How many were asked, how many answers were yes, how many of these without the events being dependent, and how many were wrong.
-fn count(counts: &mut [u64; COUNTS], yes: bool, direct: bool, right: bool) {
+// How many were asked, how many of each answer, how many chains between events that are not dependent, and how many answers were wrong.
+fn count(counts: &mut [u64; COUNTS], answer: u64, direct: bool, right: bool) {
+    let chained = answer == BEFORE || answer == AFTER;
     tally::add(counts, PAIRS, 1);
-    tally::add_if(counts, PAIRS + 1, yes);
-    tally::add_if(counts, PAIRS + 2, yes && !direct);
-    tally::add_if(counts, PAIRS + 3, !right);
+    tally::add_if(counts, PAIRS + 1, answer == SAME);
+    tally::add_if(counts, PAIRS + 2, answer == BEFORE);
+    tally::add_if(counts, PAIRS + 3, answer == AFTER);
+    tally::add_if(counts, PAIRS + 4, answer == FREE);
+    tally::add_if(counts, PAIRS + 5, chained && !direct);
+    tally::add_if(counts, PAIRS + 6, !right);
 }
 
-// An answer as a number: 0 no, 1 yes, and one for each refusal.
 fn answer_number(o: Order) -> u64 {
     match o {
-        Order::Yes => 1,
-        Order::No => 0,
+        Order::Related { relation } => relation_number(relation),
         Order::LogRefused { number, offset } => refused(number, offset),
         Order::QueryRefused { number, offset } => refused(100 + number % 100, offset),
     }
 }
 
+fn relation_number(r: Relation) -> u64 {
+    match r {
+        Relation::Same => SAME,
+        Relation::Before => BEFORE,
+        Relation::After => AFTER,
+        Relation::Free => FREE,
+    }
+}
+
 fn refused(number: u8, offset: usize) -> u64 {
-    2 + number as u64 + 256 * (offset % 65536) as u64
+    4 + number as u64 + 256 * (offset % 65536) as u64
 }
 
 // The number of the answer that is due.
@@ -55,10 +76,16 @@ fn due_within(count: usize, before: &[bool; 64], first: usize, second: usize) ->
     if second < 1 || count < second {
         return refused(116, 0);
     }
-    if plain::at(before, first - 1, second - 1) {
-        return 1;
+    if first == second {
+        return SAME;
     }
-    0
+    if plain::at(before, first - 1, second - 1) {
+        return BEFORE;
+    }
+    if plain::at(before, second - 1, first - 1) {
+        return AFTER;
+    }
+    FREE
 }
 
 // Whether the two events are dependent, or a number is 0.

@@ -5,7 +5,7 @@ use crate::truth::Truth;
 use log::LogRead;
 use plain::Leading;
 
-pub const COUNTS: usize = 44;
+pub const COUNTS: usize = 47;
 
 // The places of the counts. Those of kinds are told by the byte of the operation, those of patterns by the number of slots.
 pub const KNOWN: usize = 0;
@@ -42,7 +42,7 @@ pub const FIRST: usize = 28;
 
 pub const PAIRS: usize = 31;
 
-pub const REPLAYS: usize = 35;
+pub const REPLAYS: usize = 38;
 
 // So many more at a place.
 pub(crate) fn add(counts: &mut [u64; COUNTS], i: usize, n: u64) {

@@ -2,7 +2,8 @@
 use crate::commands;
 use command::Decoded;
 use event::Event;
-use order::Order;
+use order_query::Order;
+use relation::Relation;
 use run::Judged;
 use run::Outcome;
 use session::Answer;
@@ -10,16 +11,24 @@ use session::Found;
 use session::Session;
 use session::Verdict;
 
-// Whether one event of the log comes before another or is it.
+// How one event of the log stands to another.
 pub(crate) fn order(log: &[u8], first: usize, second: usize) {
-    match order::query(log, first, second) {
-        Order::Yes => console::text(b"yes"),
-        Order::No => console::text(b"no"),
+    match order_query::query(log, first, second) {
+        Order::Related { relation } => show_relation(relation),
         Order::LogRefused { number, offset } => console::refusal(number, offset),
         Order::QueryRefused { number, offset } => {
             console::text(b"query ");
             console::refusal(number, offset);
         }
+    }
+}
+
+fn show_relation(relation: Relation) {
+    match relation {
+        Relation::Same => console::text(b"same"),
+        Relation::Before => console::text(b"before"),
+        Relation::After => console::text(b"after"),
+        Relation::Free => console::text(b"free"),
     }
 }
 

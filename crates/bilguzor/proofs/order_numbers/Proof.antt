@@ -7,10 +7,9 @@ order-numbers-spec =
     tie.close
     (tie.spec
     (λ c. search needs)
+    (λ c κs. search needs)
     (λ c. search needs)
     (λ c. search needs)
-    (λ c. search needs)
-    (λ c. rw (c .enum-told .given .1))
-    (λ c. rw (c .enum-told2 .given .1))
-    (λ c. rw (c .before .answer .given .1))
-    (λ c. rw (c .before .answer2 .given .1)))
+    (λ c. rw (c .before .before .answer .given .1, c .relation-kind .ensures))
+    (λ c. rw (c .before .answer2 .given .1))
+    (λ c. rw (c .before .answer3 .given .1)))

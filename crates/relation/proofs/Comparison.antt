@@ -1,0 +1,108 @@
+-- Comparing two stamped events of a log decides which of the four is so; later events change no stamped event.
+-- Assumes nothing.
+use Prim.Native.Nat.{ℕ, _≤_, _<_}
+use native.Mathlib.Nat.{le-refl}
+use mathlib.Core.Path.{_≡_, refl, sym, ap, subst, _∙_}
+use mathlib.Core.Logic.{_↔_}
+use mathlib.Core.Bool.{true, and-eq-true-iff}
+use mathlib.Core.List.{List, _++_}
+use lib.Dec.{eqb}
+use lib.ListN.{getD}
+use borrow.Author.Tests.{eqb-true, eq-eqb, lt-ltb, le-leb, leb-true}
+use Rattle.event.specs.declared.Event.{Event}
+use Rattle.event.specs.Limits.{threads}
+use Rattle.event.proofs.Tests.{by-test}
+use Rattle.trace.specs.Before.{Numbered}
+use Rattle.trace.proofs.Lists.{both-ways}
+use Rattle.trace.proofs.Numbers.{numbered-among, numbered-append, numbered-at}
+use Rattle.trace.proofs.Stamps.{stamp-unique, comes-by-stamp}
+use Rattle.dependence.specs.Dependence.{dependent}
+use Rattle.dependence.specs.Order.{ComesBefore, threadOf, IsStamp}
+use Rattle.dependence.proofs.Dependent.{one-thread}
+use Rattle.clock.specs.Arrivals.{StampOf}
+use Rattle.clock.proofs.Later.{count-stays}
+use Rattle.relation.specs.declared.Stamped.{Stamped}
+use Rattle.relation.specs.declared.Relation.{Relation}
+use Rattle.relation.specs.Relation.{Relates, IsStamped}
+use Rattle.relation.specs.Compared.{oneEvent, comesBefore, compared}
+use Rattle.relation.proofs.Relations.{comes-both}
+
+-- an event has one count of a thread in its stamp
+one-count : {log : List Event} {i t m n : ℕ} {e : Event} → Numbered log i e → IsStamp log i t m → IsStamp log i t n → m ≡ n
+one-count {log} {i} {t} {m} {n} {e} x p q =
+    sym (stamp-unique e dependent threadOf log i t m (numbered-among x) p) ∙ stamp-unique e dependent threadOf log i t n (numbered-among x) q
+
+module _ {log : List Event} {i j : ℕ} {a b : Stamped} (p : IsStamped log i a) (q : IsStamped log j b) where
+  -- The count of i's own thread in i's stamp is its place there; i comes before j or is it exactly where j's stamp counts that far.
+  pub comes-by-place : (comesBefore (a .thread) (a .place) (b .stamp) ≡ true) ↔ ComesBefore log i j
+  comes-by-place = rw (p .thread, lt-ltb _ _ (p .known)) (λ x. c .1 (leb-true _ _ x), λ x. le-leb _ _ (c .0 x))
+    where
+      c : ComesBefore log i j ↔ (a .place ≤ getD (b .stamp .at) (p .event .thread) 0)
+      c =
+          comes-by-stamp dependent threadOf one-thread log i j (p .event) (a .place) _ (p .numbered) (numbered-among (q .numbered)) (p .place)
+          (q .stamp (p .event .thread) (p .known))
+
+  -- where the two have one thread and one place, the one comes before the other or is it
+  by-one-place : a .thread ≡ b .thread → a .place ≡ b .place → ComesBefore log i j
+  by-one-place t l = comes-by-place .0 (rw (t, q .thread, lt-ltb _ _ (q .known)) (le-leb (a .place) (getD (b .stamp .at) (q .event .thread) 0) reaches))
+    where
+      own : b .place ≡ getD (b .stamp .at) (q .event .thread) 0
+      own = one-count (q .numbered) (q .place) (q .stamp (q .event .thread) (q .known))
+
+      reaches : a .place ≤ getD (b .stamp .at) (q .event .thread) 0
+      reaches = subst (λ (n : ℕ). a .place ≤ n) (l ∙ own) (le-refl (a .place))
+
+-- "same for one event asked twice": one thread and one place in it tell one event
+pub one-event-iff : {log : List Event} {i j : ℕ} {a b : Stamped} → IsStamped log i a → IsStamped log j b → (oneEvent a b ≡ true) ↔ (i ≡ j)
+one-event-iff {log} {i} {j} {a} {b} p q = (there, back)
+  where
+    there : oneEvent a b ≡ true → i ≡ j
+    there e =
+        let h = and-eq-true-iff (eqb (a .thread) (b .thread)) (eqb (a .place) (b .place)) .0 e in
+        let t = eqb-true _ _ (h .0) in
+        let l = eqb-true _ _ (h .1) in
+        comes-both log (by-one-place p q t l) (by-one-place q p (sym t) (sym l))
+
+    back : i ≡ j → oneEvent a b ≡ true
+    back e = and-eq-true-iff (eqb (a .thread) (b .thread)) (eqb (a .place) (b .place)) .1 (eq-eqb _ _ t, eq-eqb _ _ l)
+      where
+        n : Numbered log i (q .event)
+        n = subst (λ (k : ℕ). Numbered log k (q .event)) (sym e) (q .numbered)
+
+        one : p .event ≡ q .event
+        one = sym (numbered-at (p .event) (p .numbered)) ∙ numbered-at (p .event) n
+
+        t : a .thread ≡ b .thread
+        t = p .thread ∙ ap threadOf one ∙ sym (q .thread)
+
+        l : a .place ≡ b .place
+        l =
+            one-count (p .numbered) (p .place)
+            (rw (e, one) (q .place))
+
+-- the comparison is right for every two stamped events of a log
+pub compared-right : {log : List Event} {i j : ℕ} {a b : Stamped} → IsStamped log i a → IsStamped log j b → Relates log i j (compared a b)
+compared-right {log} {i} {j} {a} {b} p q =
+    by-test (oneEvent a b) (λ e. rw e (one-event-iff p q .0 e))
+    (λ e.
+    let d : i ≡ j → ⊥ = λ z. both-ways (one-event-iff p q .1 z) e in
+    by-test (comesBefore (a .thread) (a .place) (b .stamp)) (λ c. rw (e, c) (comes-by-place p q .0 c, d))
+    (λ c. by-test (comesBefore (b .thread) (b .place) (a .stamp)) (λ k. rw (e, c, k) (comes-by-place q p .0 k, λ z. d (sym z)))
+    (λ k. rw (e, c, k) (d, λ x. both-ways (comes-by-place p q .1 (x .0)) c, λ x. both-ways (comes-by-place q p .1 (x .0)) k))))
+
+-- both clauses of the comparison, from the first
+pub told : (a b : Stamped) (r : Relation) → r ≡ compared a b
+    → (r ≡ compared a b) × ((log : List Event) (i j : ℕ) → IsStamped log i a → IsStamped log j b → Relates log i j r)
+told a b r q = (q, λ log i j p s. rw q (compared-right p s))
+
+-- events that follow change nothing of it
+pub stamped-stays : (log later : List Event) {i : ℕ} {s : Stamped} → IsStamped log i s → IsStamped (log ++ later) i s
+stamped-stays log later {i} {s} p =
+    record {
+      event = p .event;
+      numbered = numbered-append later (p .numbered);
+      thread = p .thread;
+      known = p .known;
+      place = count-stays log later i (p .event .thread) (s .place) (p .event) (p .numbered) (p .place);
+      stamp = λ t low. count-stays log later i t _ (p .event) (p .numbered) (p .stamp t low);
+    }
