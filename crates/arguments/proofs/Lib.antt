@@ -1,0 +1,6 @@
+-- Laws on numerals, for the proofs of single functions; one answer for each argument; written numbers are read back; examples.
+mod Values
+mod Reading
+pub mod OneAnswer
+pub mod ReadBack
+pub mod Examples

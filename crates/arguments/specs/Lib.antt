@@ -1,0 +1,2 @@
+-- What the arguments of a program are.
+pub mod Numerals
