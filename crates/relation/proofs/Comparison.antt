@@ -4,7 +4,7 @@ use Prim.Native.Nat.{ℕ, _≤_, _<_}
 use native.Mathlib.Nat.{le-refl}
 use mathlib.Core.Path.{_≡_, refl, sym, ap, subst, _∙_}
 use mathlib.Core.Logic.{_↔_}
-use mathlib.Core.Bool.{true, and-eq-true-iff}
+use mathlib.Core.Bool.{Bool, true, cond, and-eq-true-iff}
 use mathlib.Core.List.{List, _++_}
 use lib.Dec.{eqb}
 use lib.ListN.{getD}
@@ -23,6 +23,7 @@ use Rattle.clock.specs.Arrivals.{StampOf}
 use Rattle.clock.proofs.Later.{count-stays}
 use Rattle.relation.specs.declared.Stamped.{Stamped}
 use Rattle.relation.specs.declared.Relation.{Relation}
+use Rattle.relation.specs.declared.Relation.the-variants.{Same, Before, After, Free}
 use Rattle.relation.specs.Relation.{Relates, IsStamped}
 use Rattle.relation.specs.Compared.{oneEvent, comesBefore, compared}
 use Rattle.relation.proofs.Relations.{comes-both}
@@ -90,10 +91,14 @@ compared-right {log} {i} {j} {a} {b} p q =
     (λ c. by-test (comesBefore (b .thread) (b .place) (a .stamp)) (λ k. rw (e, c, k) (comes-by-place q p .0 k, λ z. d (sym z)))
     (λ k. rw (e, c, k) (d, λ x. both-ways (comes-by-place p q .1 (x .0)) c, λ x. both-ways (comes-by-place q p .1 (x .0)) k))))
 
--- both clauses of the comparison, from the first
-pub told : (a b : Stamped) (r : Relation) → r ≡ compared a b
+-- what the program's three tests gave, and both clauses of its contract
+pub told : (a b : Stamped) {x y z : Bool} → oneEvent a b ≡ x → comesBefore (a .thread) (a .place) (b .stamp) ≡ y
+    → comesBefore (b .thread) (b .place) (a .stamp) ≡ z → (r : Relation) → r ≡ cond x Same (cond y Before (cond z After Free))
     → (r ≡ compared a b) × ((log : List Event) (i j : ℕ) → IsStamped log i a → IsStamped log j b → Relates log i j r)
-told a b r q = (q, λ log i j p s. rw q (compared-right p s))
+told a b p q k r e = (exact, λ log i j g h. rw exact (compared-right g h))
+  where
+    exact : r ≡ compared a b
+    exact = rw (p, q, k) e
 
 -- events that follow change nothing of it
 pub stamped-stays : (log later : List Event) {i : ℕ} {s : Stamped} → IsStamped log i s → IsStamped (log ++ later) i s

@@ -1,6 +1,7 @@
-use mathlib.Core.Path.{refl, sym, _∙_}
+use mathlib.Core.Path.{refl, sym, ap, _∙_}
 use borrow.Author.Tests.{not-true, not-false}
 use borrow.Author.Needs.{needs}
+use Rattle.order_query.specs.Query.{related}
 use Rattle.order_query.proofs.answer.Statement.{statement}
 use Rattle.order_query.proofs.answer.Tie as tie
 
@@ -13,7 +14,7 @@ returns-2 c = rw (sym (c .before .before .before .is-number .ensures) ∙ not-fa
 returns-3 : tie.Need-returns-3
 returns-3 c =
     rw (sym (c .before .before .before .before .before .before .is-number .ensures) ∙ not-false _ (c .before .before .before .before .before .if1 .left),
-    sym (c .before .before .before .before .is-number2 .ensures) ∙ not-false _ (c .before .before .before .if2 .left), c .compare .ensures .0) refl
+    sym (c .before .before .before .before .is-number2 .ensures) ∙ not-false _ (c .before .before .before .if2 .left)) (ap related (c .compare .ensures .0))
 
 pub answer-spec : {M : Type 1} → statement M
 answer-spec = tie.close (tie.spec (λ c κs. search needs) returns (λ c κs. search needs) returns-2 (λ c κs. search needs) returns-3)
