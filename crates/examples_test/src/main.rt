@@ -22,7 +22,7 @@ fn examples() {
 
 // The empty log lists as the constant's nine bytes.
 fn no_match() {
-    let mut page = [0u8; listing_text::ROOM];
+    let mut page = [0u8; page::ROOM];
     let written = listing_text::write(b"\x07\x00\x01\x00\x00", b"\x00", &mut page);
     io::write_all(1, &listing_text::NO_MATCH);
     verdict(holds(written, &page, &listing_text::NO_MATCH));
@@ -69,8 +69,8 @@ fn example(n: usize) {
 }
 
 fn compare(folder: &[u8]) {
-    let mut page = [0u8; listing_text::ROOM];
-    let mut printed = [0u8; listing_text::ROOM];
+    let mut page = [0u8; page::ROOM];
+    let mut printed = [0u8; page::ROOM];
     let written = files::list(folder, &mut page);
     let k = files::read(folder, b"/printed", &mut printed);
     verdict(holds(written, &page, &printed[..k]));

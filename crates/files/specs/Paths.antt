@@ -5,7 +5,7 @@ use mathlib.Core.List.{List, _++_}
 use lib.ListN.{length, take}
 use Rattle.io.specs.Counts.{Counts}
 use Rattle.io.specs.Digits.{digits, Fewest}
-use Rattle.listing_text.specs.Text.{ascii}
+use Rattle.page.specs.Text.{ascii}
 
 -- the path's first `size` bytes are the text; where it has no room for the text, `size` is its whole length
 pub record Starts (text path : List ℕ) (size : ℕ) : Type 0 where

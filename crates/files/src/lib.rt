@@ -21,8 +21,8 @@ pub struct Sizes {
 pub fn list(folder: &[u8], buffer: &mut [u8]) -> Written
     ensures { λ r. ⌜ SomeListing (now (buffer .entry)) (now (buffer .exit)) r ⌝ }
 {
-    let mut pattern = [0u8; listing_text::SPACE];
-    let mut log = [0u8; listing_text::SPACE];
+    let mut pattern = [0u8; page::SPACE];
+    let mut log = [0u8; page::SPACE];
     let sizes = read_both(folder, &mut pattern, &mut log);
     let p = sizes.pattern;
     let l = sizes.log;
@@ -63,13 +63,13 @@ fn read_opened(opened: bool, fd: i32, space: &mut [u8]) -> usize
 
 // Writes replay.bin, the log that shows the match, where there is one, and answers whether that went well. What is too long is not judged.
 pub fn save_replay(pattern: &[u8], log: &[u8]) -> bool {
-    if listing_text::LONGEST < pattern.len() {
+    if page::LONGEST < pattern.len() {
         return true;
     }
-    if listing_text::LONGEST < log.len() {
+    if page::LONGEST < log.len() {
         return true;
     }
-    let mut buffer = [0u8; listing_text::SPACE];
+    let mut buffer = [0u8; page::SPACE];
     let replayed = replay_log::write(pattern, log, &mut buffer);
     let judged = replayed.judged;
     let outcome = judged.outcome;

@@ -23,8 +23,9 @@ use Rattle.session.specs.Answers.{Refused, nothing, Given}
 use Rattle.run.specs.Answers.{outcomeIs, judgedIs}
 use Rattle.session.specs.Meaning.{RunOf, pattern-refused, over-log, log-refused, judged}
 use Rattle.event.proofs.Tests.{by-test}
-use Rattle.listing_text.specs.Text.{slotLine, refusalLine, patternRefusalLine, noMatchLine, matchLine}
-use Rattle.listing_text.specs.Page.{linesOf, textOf}
+use Rattle.page.specs.Lines.{refusalLine}
+use Rattle.listing_text.specs.Text.{slotLine, patternRefusalLine, noMatchLine, matchLine}
+use Rattle.listing_text.specs.Told.{linesOf, textOf}
 use Rattle.listing_text.specs.Listing as listing
 use Rattle.listing_text.specs.Listing.{SlotLines}
 use Rattle.listing_text.proofs.SlotLines.{no-line, a-line}

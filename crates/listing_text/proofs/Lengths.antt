@@ -14,13 +14,12 @@ use Rattle.height.specs.Rounding.{metresOf}
 use Rattle.run.specs.declared.Outcome.{Outcome}
 use Rattle.run.specs.declared.Outcome.the-variants.{Match, None, PatternRefused, LogRefused}
 use Rattle.log.specs.Number.{nthEvent}
-use Rattle.listing_text.specs.Text.{decimal, metresText, heightText, operationText, slotLine, refusalLine}
-use Rattle.listing_text.specs.Listing.{enough as room}
-use Rattle.listing_text.specs.Page.{linesOf, textOf}
-use Rattle.listing_text.proofs.Decimal.{few-figures}
-
-number : (n : ℕ) → length (decimal n) ≤ 20
-number n = few-figures 20 n
+use Rattle.page.specs.Text.{decimal}
+use Rattle.page.specs.Lines.{refusalLine}
+use Rattle.page.specs.Page.{room}
+use Rattle.page.proofs.Lengths.{number, refusal}
+use Rattle.listing_text.specs.Text.{metresText, heightText, operationText, slotLine}
+use Rattle.listing_text.specs.Told.{linesOf, textOf}
 
 metres : (m : Metres) → length (metresText m) ≤ 42
 metres m =
@@ -56,9 +55,6 @@ lines bytes slot (n ∷ ns) =
     let l : length (slotLine slot n (nthEvent n bytes 0)) ≤ 146 = line slot n (nthEvent n bytes 0) in
     let m : length (linesOf bytes (slot + 1) ns) ≤ 146 * length ns = lines bytes (slot + 1) ns in
     by-test (eqb n 0) (λ q. rw q (omega arith)) (λ q. rw q (rw length-append (omega arith)))
-
-refusal : (k o : ℕ) → length (refusalLine k o) ≤ 53
-refusal k o = let a : length (decimal k) ≤ 20 = number k in let b : length (decimal o) ≤ 20 = number o in simp length-append (omega arith)
 
 pub fits-a-page : (bytes : List ℕ) (o : Outcome) (numbers : List ℕ) → length numbers ≤ 5 → length (textOf bytes o numbers) ≤ room
 fits-a-page bytes (Match n) numbers h =

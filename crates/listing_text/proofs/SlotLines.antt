@@ -7,10 +7,11 @@ use lib.ListN.{length, getD, drop}
 use lib.Seq.{drop-cons, drop-length}
 use borrow.Author.Tests.{eq-eqb, ne-eqb}
 use Rattle.log.specs.Number.{nthEvent}
-use Rattle.listing_text.specs.declared.Page.{Page}
+use Rattle.page.specs.declared.Page.{Page}
+use Rattle.page.specs.Page.{onto}
+use Rattle.page.proofs.Onto.{onto-append, onto-none}
 use Rattle.listing_text.specs.Text.{slotLine}
-use Rattle.listing_text.specs.Page.{onto, linesOf}
-use Rattle.listing_text.proofs.Onto.{onto-append, onto-none}
+use Rattle.listing_text.specs.Told.{linesOf}
 
 module _ (bytes : List ℕ) (slot n : ℕ) (ns : List ℕ) where
   pub no-line : n ≡ 0 → linesOf bytes slot (n ∷ ns) ≡ []

@@ -6,15 +6,12 @@ use lib.ListN.{length}
 use Rattle.event.specs.declared.Event.{Event}
 use Rattle.event.specs.declared.Slot.{Slot}
 use Rattle.writer.specs.declared.Written.{Written}
-use Rattle.writer.specs.Writing.{writing, writtenIs, bufferAfter}
 use Rattle.log.specs.Whole.{accepted, refused, readLog, readPattern}
 use Rattle.trace.specs.Before.{Numbered}
 use Rattle.dependence.specs.Order.{HasMatch, IsCount, IsFirst}
-use Rattle.listing_text.specs.Text.{slotLine, refusalLine, patternRefusalLine, noMatchLine, matchLine, tooLongLine}
-
--- "each at most 65,536 bytes"
-abbrev pub longest : ℕ
-longest = 65536
+use Rattle.page.specs.Lines.{longest, refusalLine, tooLongLine}
+use Rattle.page.specs.Page.{PutIn}
+use Rattle.listing_text.specs.Text.{slotLine, patternRefusalLine, noMatchLine, matchLine}
 
 -- "a line per slot", from this slot number on: of the events numbered
 pub data SlotLines (es : List Event) : ℕ → List ℕ → List ℕ → Type 0 where
@@ -37,14 +34,6 @@ pub data Listing (pattern log : List ℕ) : List ℕ → Type 0 where
   long-log : longest < length log → Listing pattern log tooLongLine
   judged : {text : List ℕ} → length pattern ≤ longest → length log ≤ longest → Judged pattern log text → Listing pattern log text
 
--- a buffer of so many bytes holds every listing
-abbrev pub enough : ℕ
-enough = 1024
-
 -- the listing written at the start of a lent buffer; or 15, and the buffer as it was, where it is shorter than the listing
-pub record ListedIn (pattern log before after : List ℕ) (r : Written) : Type 0 where
-  pub text : List ℕ
-  pub listing : Listing pattern log text
-  pub short : length text ≤ enough
-  pub answer : writtenIs r ≡ writing 0 text before 0
-  pub buffer : after ≡ bufferAfter 0 text before 0
+abbrev pub ListedIn : List ℕ → List ℕ → List ℕ → List ℕ → Written → Type 0
+ListedIn pattern log = PutIn (Listing pattern log)

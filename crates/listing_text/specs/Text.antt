@@ -1,30 +1,15 @@
--- The listing's words and numbers as bytes, in ASCII, and its lines.
-use Prim.Native.Nat.{ℕ, zero, suc, _+_, _/_, _%_}
-use Prim.Native.Char.{code}
-use Prim.Native.String.{String, [] as nil, _∷_ as _and_}
+-- The listing's words and heights as bytes, in ASCII, and its lines.
+use Prim.Native.Nat.{ℕ}
 use mathlib.Core.Bool.{cond}
-use mathlib.Core.List.{List, [], _∷_, _++_}
-use lib.Dec.{ltb}
+use mathlib.Core.List.{List, [], _++_}
 use lib.IntN.{ℤ}
 use Rattle.event.specs.declared.Event.{Event}
 use Rattle.event.specs.declared.Operation.{Operation}
 use Rattle.event.specs.declared.Operation.the-variants.{Read, Write, Acquire, Release, Fork, Join, Mark}
 use Rattle.height.specs.declared.Metres.{Metres}
 use Rattle.height.specs.Rounding.{metresOf}
-
--- the bytes of a text: of each character its code
-abbrev pub ascii : String → List ℕ
-ascii nil = []
-ascii (c and s) = code c ∷ ascii s
-
--- a number in decimal, of so many figures at most
-unfoldable pub figures : ℕ → ℕ → List ℕ
-figures zero n = []
-figures (suc left) n = cond (ltb n 10) ((48 + n) ∷ []) (figures left (n / 10) ++ ((48 + n % 10) ∷ []))
-
--- every number of 64 bits has 20 figures at most
-abbrev pub decimal : ℕ → List ℕ
-decimal n = figures 20 n
+use Rattle.page.specs.Text.{ascii, decimal}
+use Rattle.page.specs.Lines.{refusalLine}
 
 -- "Heights are metres to one decimal"; "A minus sign stands when the rounded height is below zero"
 abbrev pub metresText : Metres → List ℕ
@@ -48,10 +33,7 @@ abbrev pub slotLine : ℕ → ℕ → Event → List ℕ
 slotLine slot n e =
     decimal slot ++ ascii " event " ++ decimal n ++ ascii " thread " ++ decimal (e .thread) ++ ascii " " ++ operationText (e .operation) ++ ascii "\n"
 
--- "`refused K at B` (K the number, B the offset; `pattern refused K at B` for the pattern)"
-abbrev pub refusalLine : ℕ → ℕ → List ℕ
-refusalLine k o = ascii "refused " ++ decimal k ++ ascii " at " ++ decimal o ++ ascii "\n"
-
+-- "`pattern refused K at B` for the pattern"
 abbrev pub patternRefusalLine : ℕ → ℕ → List ℕ
 patternRefusalLine k o = ascii "pattern " ++ refusalLine k o
 
@@ -62,6 +44,3 @@ noMatchLine = ascii "no match\n"
 -- "`match at N` (N the count)"
 abbrev pub matchLine : ℕ → List ℕ
 matchLine n = ascii "match at " ++ decimal n ++ ascii "\n"
-
-abbrev pub tooLongLine : List ℕ
-tooLongLine = ascii "too long\n"

@@ -5,8 +5,8 @@ fn main() {
         files::print(b"replay", b"usage: replay\n");
         return;
     }
-    let mut pattern = [0u8; listing_text::SPACE];
-    let mut log = [0u8; listing_text::SPACE];
+    let mut pattern = [0u8; page::SPACE];
+    let mut log = [0u8; page::SPACE];
     let sizes = files::read_both(b".", &mut pattern, &mut log);
     let p = sizes.pattern;
     let l = sizes.log;
@@ -23,7 +23,7 @@ fn replay(pattern: &[u8], log: &[u8]) {
 }
 
 fn print(pattern: &[u8], log: &[u8]) {
-    let mut page = [0u8; listing_text::ROOM];
+    let mut page = [0u8; page::ROOM];
     let written = listing_text::write(pattern, log, &mut page);
     files::print_written(b"replay", &page, written);
 }

@@ -22,7 +22,8 @@ use Rattle.trace.proofs.Counts.{matches, matches-iff, count-of, count-of-is}
 use Rattle.dependence.specs.Dependence.{dependent}
 use Rattle.dependence.specs.Order.{HasMatch, IsCount, Named, IsFirst}
 use Rattle.height.specs.Rounding.{metresOf}
-use Rattle.listing_text.specs.Text.{figures, heightText}
+use Rattle.page.specs.Text.{figures}
+use Rattle.listing_text.specs.Text.{heightText}
 use Rattle.trials.specs.Trials.{Verdict, match, none, Trial, judged, any-pattern, reads, prints, IsVerdict, Shows, All, trials}
 use Rattle.trials.proofs.Search.{nameable, nameable-named, named-nameable}
 

@@ -9,7 +9,8 @@ use Rattle.event.specs.declared.Slot.{Slot}
 use Rattle.command.specs.Bytes.{Bytes}
 use Rattle.log.specs.Whole.{Passing, passed, accepted, outcomeOf, readLog, readPattern}
 use Rattle.dependence.specs.Order.{HasMatch, IsCount, Named, IsFirst}
-use Rattle.listing_text.specs.Text.{ascii, heightText}
+use Rattle.page.specs.Text.{ascii}
+use Rattle.listing_text.specs.Text.{heightText}
 
 -- ---- what a row means
 

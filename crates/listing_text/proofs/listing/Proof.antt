@@ -1,8 +1,8 @@
 use Rattle.listing_text.proofs.Lengths.{fits-a-page}
 use Rattle.listing_text.proofs.Judgement.{listed}
 use Rattle.listing_text.specs.Listing.{long-pattern, long-log, judged}
-use Rattle.listing_text.specs.Page.{textOf}
-use Rattle.listing_text.specs.Text.{tooLongLine}
+use Rattle.listing_text.specs.Told.{textOf}
+use Rattle.page.specs.Lines.{tooLongLine}
 use lib.ListN.{length}
 use mathlib.Core.Path.{_≡_}
 use native.Mathlib.Omega.{arith}
@@ -11,10 +11,10 @@ use Rattle.listing_text.proofs.listing.Statement.{statement}
 use Rattle.listing_text.proofs.listing.Tie as tie
 
 returns : tie.Need-returns
-returns c = (tooLongLine, long-pattern (c .before .before .if1 .taken), omega arith, rw (c .text .ensures, c .before .before .before .empty .ensures))
+returns c = (tooLongLine, long-pattern (c .before .if1 .taken), omega arith, rw (c .too-long .ensures, c .before .before .empty .ensures))
 
 returns-2 : tie.Need-returns-2
-returns-2 c = (tooLongLine, long-log (c .before .before .if2 .taken), omega arith, rw (c .text2 .ensures, c .before .before .before .before .empty .ensures))
+returns-2 c = (tooLongLine, long-log (c .before .if2 .taken), omega arith, rw (c .too-long2 .ensures, c .before .before .before .empty .ensures))
 
 returns-3 : tie.Need-returns-3
 returns-3 c =
@@ -31,10 +31,8 @@ listing-spec =
     tie.close
     (tie.spec
     (λ c κs. search needs)
-    (λ c. search needs)
     (λ c κs. search needs)
     returns
-    (λ c. search needs)
     (λ c κs. search needs)
     returns-2
     (λ c κs. search needs)

@@ -1,4 +1,4 @@
-use Rattle.listing_text.proofs.Onto.{onward}
+use Rattle.page.proofs.Onto.{onward}
 use borrow.Author.Needs.{needs}
 use Rattle.listing_text.proofs.verdict.Statement.{statement}
 use Rattle.listing_text.proofs.verdict.Tie as tie

@@ -12,5 +12,5 @@ print-spec =
     (λ c κs. search needs)
     (λ c. search needs)
     (λ c. search needs)
-    (λ c κs. in-page _ _ _ _ _ (c .before .before .before .write .ensures))
+    (λ c κs. in-page (c .before .before .before .write .ensures))
     (λ c. search needs))
