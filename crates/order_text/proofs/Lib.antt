@@ -1,0 +1,2 @@
+-- How long the line is.
+pub mod Lengths

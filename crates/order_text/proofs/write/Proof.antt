@@ -1,0 +1,12 @@
+use Rattle.page.proofs.PutIn.{put-in}
+use borrow.Author.Needs.{needs}
+use Rattle.order_text.proofs.write.Statement.{statement}
+use Rattle.order_text.proofs.write.Tie as tie
+
+returns : tie.Need-returns
+returns c =
+    let t = c .before .before .before .before .line .ensures in
+    put-in (t .0) (t .1) (t .2) (t .3) (c .before .before .put .ensures)
+
+pub write-spec : {M : Type 1} → statement M
+write-spec = tie.close (tie.spec (λ c κs. search needs) (λ c κs. search needs) (λ c. search needs) returns)

@@ -1,0 +1,2 @@
+-- The text of an order query's answer.
+pub mod OrderText
