@@ -21,8 +21,8 @@ use Rattle.relation.specs.Relation.{IsStamped}
 use Rattle.relation.proofs.Comparison.{compared-right, stamped-stays}
 use Rattle.log.specs.Whole.{readLog, accepted}
 use Rattle.order_query.specs.declared.Awaited.{Awaited}
-use Rattle.order_query.specs.Query.{query-refused, IsNumber, Answers, no-number, relates}
-use Rattle.order_query.specs.Awaiting.{notYet, met, among, answered}
+use Rattle.order_query.specs.Query.{IsNumber, Answers, no-number, relates}
+use Rattle.order_query.specs.Awaiting.{notYet, met, isNumber, answerAt}
 
 -- w waits for event number i: if it is among those that passed, w has its thread, its place and its stamp
 pub record Waits (es : List Event) (i : ℕ) (w : Awaited) : Type 0 where
@@ -85,23 +85,23 @@ next past i j taken v w e s clocks c low g h a =
 -- ---- the end of the log: the answer
 
 module _ (es : List Event) where
-  is-number : (i count : ℕ) → count ≡ length es → among i count ≡ true → IsNumber es i
+  is-number : (i count : ℕ) → count ≡ length es → isNumber i count ≡ true → IsNumber es i
   is-number i count c t =
       let h = and-eq-true-iff (ltb 0 i) (leb i count) .0 t in
       (ltb-true 0 i (h .0), subst (λ (k : ℕ). i ≤ k) c (leb-true i count (h .1)))
 
-  not-number : (i count : ℕ) → count ≡ length es → among i count ≡ false → IsNumber es i → ⊥
+  not-number : (i count : ℕ) → count ≡ length es → isNumber i count ≡ false → IsNumber es i → ⊥
   not-number i count c f u = both-ways (and-eq-true-iff (ltb 0 i) (leb i count) .1 (lt-ltb 0 i (u .0), le-leb i count (rw c (u .1)))) f
 
   stamped : (i : ℕ) (w : Awaited) → Waits es i w → IsNumber es i → IsStamped es i (w .event)
   stamped i w h u = h .kept _ (at-numbered noEvent es i u)
 
 pub answers : (bytes : List ℕ) (es : List Event) (i j : ℕ) (v w : Awaited) → Waits es i v → Waits es j w → accepted es ≡ readLog bytes
-    → (count : ℕ) → count ≡ length es → Answers bytes i j (answered v w count)
+    → (count : ℕ) → count ≡ length es → Answers bytes i j (answerAt v w count)
 answers bytes es i j v w g h r count c =
     rw (g .number, h .number)
-    (by-test (among i count)
-    (λ p. by-test (among j count)
+    (by-test (isNumber i count)
+    (λ p. by-test (isNumber j count)
     (λ q.
     let m = is-number es i count c p in
     let n = is-number es j count c q in

@@ -2,8 +2,6 @@
 use Prim.Native.Nat.{ℕ}
 use mathlib.Core.Bool.{Bool, cond, _&&_}
 use lib.Dec.{eqb, leb, ltb}
-use lib.ListN.{replicate}
-use Rattle.event.specs.Limits.{threads}
 use Rattle.clock.specs.declared.Stamp.{Stamp}
 use Rattle.clock.specs.Clocks.{noStamp, countOf}
 use Rattle.relation.specs.Compared.{compared}
@@ -18,12 +16,12 @@ abbrev pub met : Awaited → ℕ → ℕ → Stamp → Awaited
 met w n t s = cond (eqb n (w .number)) (record { number = n; event = record { thread = t; place = countOf t s; stamp = s } }) w
 
 -- one of so many events has this number
-abbrev pub among : ℕ → ℕ → Bool
-among n count = ltb 0 n && leb n count
+abbrev pub isNumber : ℕ → ℕ → Bool
+isNumber n count = ltb 0 n && leb n count
 
 -- the answer at the end of a log of so many events
-abbrev pub answered : Awaited → Awaited → ℕ → OrderAnswer
-answered a b count =
-    cond (among (a .number) count)
-    (cond (among (b .number) count) (related (compared (a .event) (b .event))) (query-refused 16 0))
+abbrev pub answerAt : Awaited → Awaited → ℕ → OrderAnswer
+answerAt a b count =
+    cond (isNumber (a .number) count)
+    (cond (isNumber (b .number) count) (related (compared (a .event) (b .event))) (query-refused 16 0))
     (query-refused 16 0)

@@ -2,10 +2,10 @@
 use clock::Stamp;
 use log::Stepped;
 use relation::Relation;
-use relation::Stamped;
+use relation::StampedEvent;
 ghost use mathlib.Core.Path.{_≡_};
 ghost use Rattle.order_query.specs.Query.{Answers, orderIs};
-ghost use Rattle.order_query.specs.Awaiting.{notYet, met, among, answered};
+ghost use Rattle.order_query.specs.Awaiting.{notYet, met, isNumber, answerAt};
 
 pub enum Order {
     Related { relation: Relation },
@@ -16,7 +16,7 @@ pub enum Order {
 // An event that is waited for by its number; what is known of it once it has come.
 struct Awaited {
     number: usize,
-    event: Stamped,
+    event: StampedEvent,
 }
 
 // How event number `first` of the log stands to event number `second`.
@@ -51,7 +51,7 @@ fn not_yet(number: usize) -> Awaited
     let stamp = Stamp {
         at: [0; clock::THREADS],
     };
-    let event = Stamped {
+    let event = StampedEvent {
         thread: 0,
         place: 0,
         stamp,
@@ -68,7 +68,7 @@ impl Awaited {
             return self;
         }
         let place = clock::count_of(t, stamp);
-        let event = Stamped {
+        let event = StampedEvent {
             thread: t,
             place,
             stamp,
@@ -79,7 +79,7 @@ impl Awaited {
 
 // The answer at the end of a log of `count` events.
 fn answer(one: Awaited, other: Awaited, count: usize) -> Order
-    ensures { λ r. ⌜ orderIs r ≡ answered one other count ⌝ }
+    ensures { λ r. ⌜ orderIs r ≡ answerAt one other count ⌝ }
 {
     if !is_number(one.number, count) {
         return Order::QueryRefused {
@@ -101,7 +101,7 @@ fn answer(one: Awaited, other: Awaited, count: usize) -> Order
 
 // Whether one of so many events has this number.
 fn is_number(n: usize, count: usize) -> bool
-    ensures { λ r. ⌜ r ≡ among n count ⌝ }
+    ensures { λ r. ⌜ r ≡ isNumber n count ⌝ }
 {
     (0 < n) & (n <= count)
 }

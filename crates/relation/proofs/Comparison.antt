@@ -1,16 +1,15 @@
 -- Comparing two stamped events of a log decides which of the four is so; later events change no stamped event.
 -- Assumes nothing.
-use Prim.Native.Nat.{ℕ, _≤_, _<_}
+use Prim.Native.Nat.{ℕ, _≤_}
 use native.Mathlib.Nat.{le-refl}
 use mathlib.Core.Path.{_≡_, refl, sym, ap, subst, _∙_}
-use mathlib.Core.Logic.{_↔_}
+use mathlib.Core.Logic.{_⊎_, inl, inr, _↔_}
 use mathlib.Core.Bool.{Bool, true, cond, and-eq-true-iff}
 use mathlib.Core.List.{List, _++_}
 use lib.Dec.{eqb}
 use lib.ListN.{getD}
 use borrow.Author.Tests.{eqb-true, eq-eqb, lt-ltb, le-leb, leb-true}
 use Rattle.event.specs.declared.Event.{Event}
-use Rattle.event.specs.Limits.{threads}
 use Rattle.event.proofs.Tests.{by-test}
 use Rattle.trace.specs.Before.{Numbered}
 use Rattle.trace.proofs.Lists.{both-ways}
@@ -19,21 +18,20 @@ use Rattle.trace.proofs.Stamps.{stamp-unique, comes-by-stamp}
 use Rattle.dependence.specs.Dependence.{dependent}
 use Rattle.dependence.specs.Order.{ComesBefore, threadOf, IsStamp}
 use Rattle.dependence.proofs.Dependent.{one-thread}
-use Rattle.clock.specs.Arrivals.{StampOf}
 use Rattle.clock.proofs.Later.{count-stays}
-use Rattle.relation.specs.declared.Stamped.{Stamped}
+use Rattle.relation.specs.declared.StampedEvent.{StampedEvent}
 use Rattle.relation.specs.declared.Relation.{Relation}
 use Rattle.relation.specs.declared.Relation.the-variants.{Same, Before, After, Free}
 use Rattle.relation.specs.Relation.{Relates, IsStamped}
 use Rattle.relation.specs.Compared.{oneEvent, comesBefore, compared}
-use Rattle.relation.proofs.Relations.{comes-both}
+use Rattle.relation.proofs.Relations.{comes-both, yes-is-same-or-before}
 
 -- an event has one count of a thread in its stamp
 one-count : {log : List Event} {i t m n : ℕ} {e : Event} → Numbered log i e → IsStamp log i t m → IsStamp log i t n → m ≡ n
 one-count {log} {i} {t} {m} {n} {e} x p q =
     sym (stamp-unique e dependent threadOf log i t m (numbered-among x) p) ∙ stamp-unique e dependent threadOf log i t n (numbered-among x) q
 
-module _ {log : List Event} {i j : ℕ} {a b : Stamped} (p : IsStamped log i a) (q : IsStamped log j b) where
+module _ {log : List Event} {i j : ℕ} {a b : StampedEvent} (p : IsStamped log i a) (q : IsStamped log j b) where
   -- The count of i's own thread in i's stamp is its place there; i comes before j or is it exactly where j's stamp counts that far.
   pub comes-by-place : (comesBefore (a .thread) (a .place) (b .stamp) ≡ true) ↔ ComesBefore log i j
   comes-by-place = rw (p .thread, lt-ltb _ _ (p .known)) (λ x. c .1 (leb-true _ _ x), λ x. le-leb _ _ (c .0 x))
@@ -54,7 +52,7 @@ module _ {log : List Event} {i j : ℕ} {a b : Stamped} (p : IsStamped log i a) 
       reaches = subst (λ (n : ℕ). a .place ≤ n) (l ∙ own) (le-refl (a .place))
 
 -- "same for one event asked twice": one thread and one place in it tell one event
-pub one-event-iff : {log : List Event} {i j : ℕ} {a b : Stamped} → IsStamped log i a → IsStamped log j b → (oneEvent a b ≡ true) ↔ (i ≡ j)
+pub one-event-iff : {log : List Event} {i j : ℕ} {a b : StampedEvent} → IsStamped log i a → IsStamped log j b → (oneEvent a b ≡ true) ↔ (i ≡ j)
 one-event-iff {log} {i} {j} {a} {b} p q = (there, back)
   where
     there : oneEvent a b ≡ true → i ≡ j
@@ -82,7 +80,7 @@ one-event-iff {log} {i} {j} {a} {b} p q = (there, back)
             (rw (e, one) (q .place))
 
 -- the comparison is right for every two stamped events of a log
-pub compared-right : {log : List Event} {i j : ℕ} {a b : Stamped} → IsStamped log i a → IsStamped log j b → Relates log i j (compared a b)
+pub compared-right : {log : List Event} {i j : ℕ} {a b : StampedEvent} → IsStamped log i a → IsStamped log j b → Relates log i j (compared a b)
 compared-right {log} {i} {j} {a} {b} p q =
     by-test (oneEvent a b) (λ e. rw e (one-event-iff p q .0 e))
     (λ e.
@@ -91,17 +89,29 @@ compared-right {log} {i} {j} {a} {b} p q =
     (λ c. by-test (comesBefore (b .thread) (b .place) (a .stamp)) (λ k. rw (e, c, k) (comes-by-place q p .0 k, λ z. d (sym z)))
     (λ k. rw (e, c, k) (d, λ x. both-ways (comes-by-place p q .1 (x .0)) c, λ x. both-ways (comes-by-place q p .1 (x .0)) k))))
 
+-- "The old yes is exactly "same or before"", of the comparison that answered yes or no
+pub yes-by-stamps : {log : List Event} {i j : ℕ} {a b : StampedEvent} → IsStamped log i a → IsStamped log j b
+    → (comesBefore (a .thread) (a .place) (b .stamp) ≡ true) ↔ ((compared a b ≡ Same) ⊎ (compared a b ≡ Before))
+yes-by-stamps {log} {i} {j} {a} {b} p q = (there, back)
+  where
+    there : comesBefore (a .thread) (a .place) (b .stamp) ≡ true → (compared a b ≡ Same) ⊎ (compared a b ≡ Before)
+    there t = by-test (oneEvent a b) (λ e. inl (rw e refl)) (λ e. inr (rw (e, t) refl))
+
+    back : (compared a b ≡ Same) ⊎ (compared a b ≡ Before) → comesBefore (a .thread) (a .place) (b .stamp) ≡ true
+    back (inl h) = comes-by-place p q .1 (yes-is-same-or-before log (p .numbered) .1 (inl (subst (Relates log i j) h (compared-right p q))))
+    back (inr h) = comes-by-place p q .1 (subst (Relates log i j) h (compared-right p q) .0)
+
 -- what the program's three tests gave, and both clauses of its contract
-pub told : (a b : Stamped) {x y z : Bool} → oneEvent a b ≡ x → comesBefore (a .thread) (a .place) (b .stamp) ≡ y
+pub by-tests : (a b : StampedEvent) {x y z : Bool} → oneEvent a b ≡ x → comesBefore (a .thread) (a .place) (b .stamp) ≡ y
     → comesBefore (b .thread) (b .place) (a .stamp) ≡ z → (r : Relation) → r ≡ cond x Same (cond y Before (cond z After Free))
     → (r ≡ compared a b) × ((log : List Event) (i j : ℕ) → IsStamped log i a → IsStamped log j b → Relates log i j r)
-told a b p q k r e = (exact, λ log i j g h. rw exact (compared-right g h))
+by-tests a b p q k r e = (exact, λ log i j g h. rw exact (compared-right g h))
   where
     exact : r ≡ compared a b
     exact = rw (p, q, k) e
 
 -- events that follow change nothing of it
-pub stamped-stays : (log later : List Event) {i : ℕ} {s : Stamped} → IsStamped log i s → IsStamped (log ++ later) i s
+pub stamped-stays : (log later : List Event) {i : ℕ} {s : StampedEvent} → IsStamped log i s → IsStamped (log ++ later) i s
 stamped-stays log later {i} {s} p =
     record {
       event = p .event;

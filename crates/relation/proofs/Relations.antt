@@ -20,7 +20,7 @@ use Rattle.dependence.specs.Dependence.{dependent}
 use Rattle.dependence.specs.Order.{ComesBefore}
 use Rattle.relation.specs.declared.Relation.{Relation}
 use Rattle.relation.specs.declared.Relation.the-variants.{Same, Before, After, Free}
-use Rattle.relation.specs.Relation.{Precedes, Relates, mirrored}
+use Rattle.relation.specs.Relation.{Relates, mirrored}
 
 module _ (log : List Event) where
   comes-le : {i j : ℕ} → ComesBefore log i j → i ≤ j
@@ -76,11 +76,11 @@ module _ (log : List Event) where
 
   -- ---- asked the other way round
 
-  pub mirror : (i j : ℕ) (r : Relation) → Relates log i j r → Relates log j i (mirrored r)
-  mirror i j Same e = sym e
-  mirror i j Before p = p
-  mirror i j After p = p
-  mirror i j Free p = (λ z. p .0 (sym z), p .2, p .1)
+  pub mirror-iff : (i j : ℕ) (r : Relation) → Relates log i j r ↔ Relates log j i (mirrored r)
+  mirror-iff i j Same = (λ e. sym e, λ e. sym e)
+  mirror-iff i j Before = (λ p. p, λ p. p)
+  mirror-iff i j After = (λ p. p, λ p. p)
+  mirror-iff i j Free = (λ p. (λ z. p .0 (sym z), p .2, p .1), λ p. (λ z. p .0 (sym z), p .2, p .1))
 
   -- ---- of events of the log
 

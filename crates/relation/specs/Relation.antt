@@ -8,7 +8,7 @@ use Rattle.event.specs.Limits.{threads}
 use Rattle.trace.specs.Before.{Numbered}
 use Rattle.dependence.specs.Order.{ComesBefore, IsStamp}
 use Rattle.clock.specs.Arrivals.{StampOf}
-use Rattle.relation.specs.declared.Stamped.{Stamped}
+use Rattle.relation.specs.declared.StampedEvent.{StampedEvent}
 use Rattle.relation.specs.declared.Relation.{Relation}
 use Rattle.relation.specs.declared.Relation.the-variants.{Same, Before, After, Free}
 
@@ -32,7 +32,7 @@ mirrored After = Before
 mirrored Free = Free
 
 -- "two stamped events": s is what is known of event number i of the log. Its place in its thread is the count of its own thread in its stamp.
-pub record IsStamped (log : List Event) (i : ℕ) (s : Stamped) : Type 0 where
+pub record IsStamped (log : List Event) (i : ℕ) (s : StampedEvent) : Type 0 where
   pub event : Event
   pub numbered : Numbered log i event
   pub thread : s .thread ≡ event .thread

@@ -16,14 +16,14 @@ pub enum Relation {
 }
 
 // What is known of an event of a log: its thread, its place among the events of that thread, counted from 1, and its stamp.
-pub struct Stamped {
+pub struct StampedEvent {
     pub thread: u8,
     pub place: u16,
     pub stamp: Stamp,
 }
 
 // Compares two stamped events.
-pub fn compare(first: Stamped, second: Stamped) -> Relation
+pub fn compare(first: StampedEvent, second: StampedEvent) -> Relation
     ensures exact { λ r. ⌜ r ≡ compared first second ⌝ }
     ensures order { λ r. ⌜ ((log : List Event) (i j : ℕ) → IsStamped log i first → IsStamped log j second → Relates log i j r) ⌝ }
 {
@@ -40,14 +40,14 @@ pub fn compare(first: Stamped, second: Stamped) -> Relation
 }
 
 // Whether they are one event: each has a thread, and a place there that no other event has.
-fn is_one(a: Stamped, b: Stamped) -> bool
+fn is_one(a: StampedEvent, b: StampedEvent) -> bool
     ensures { λ r. ⌜ r ≡ oneEvent a b ⌝ }
 {
     (a.thread == b.thread) & (a.place == b.place)
 }
 
 // Whether the one comes before the other or is it: the other's stamp then counts as far as its place.
-fn comes_before(a: Stamped, b: Stamped) -> bool
+fn comes_before(a: StampedEvent, b: StampedEvent) -> bool
     ensures { λ r. ⌜ r ≡ comesBefore (a .thread) (a .place) (b .stamp) ⌝ }
 {
     if a.thread >= event::THREADS {

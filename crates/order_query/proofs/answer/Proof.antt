@@ -13,8 +13,10 @@ returns-2 c = rw (sym (c .before .before .before .is-number .ensures) ∙ not-fa
 
 returns-3 : tie.Need-returns-3
 returns-3 c =
-    rw (sym (c .before .before .before .before .before .before .is-number .ensures) ∙ not-false _ (c .before .before .before .before .before .if1 .left),
-    sym (c .before .before .before .before .is-number2 .ensures) ∙ not-false _ (c .before .before .before .if2 .left)) (ap related (c .compare .ensures .0))
+    rw (
+      sym (c .before .before .before .before .before .before .is-number .ensures) ∙ not-false _ (c .before .before .before .before .before .if1 .left),
+      sym (c .before .before .before .before .is-number2 .ensures) ∙ not-false _ (c .before .before .before .if2 .left),
+    ) (ap related (c .compare .ensures .0))
 
 pub answer-spec : {M : Type 1} → statement M
 answer-spec = tie.close (tie.spec (λ c κs. search needs) returns (λ c κs. search needs) returns-2 (λ c κs. search needs) returns-3)

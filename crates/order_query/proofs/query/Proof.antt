@@ -28,8 +28,7 @@ abbrev μ-loop : tie.MeasureT-loop
 loop-holds : tie.Need-loop-holds Inv-loop μ-loop
 loop-holds c =
     let args = c .before .before .before .before .before .args in
-    let fresh = c .before .before .before .fresh in
-    (
+    let fresh = c .before .before .before .fresh in (
       [],
       start (args .log .now) (fresh .result) (fresh .ensures),
       c .before .before .fresh2 .ensures .1,

@@ -12,8 +12,7 @@ returns c = (tooLongLine, long (c .before .if1 .taken), omega arith, rw (c .too-
 
 returns-2 : tie.Need-returns-2
 returns-2 c =
-    let a = orderIs (c .before .query .result) in
-    (
+    let a = orderIs (c .before .query .result) in (
       answerLine a,
       answered (c .before .before .if1 .left) (c .before .query .ensures),
       fits-a-page a,
