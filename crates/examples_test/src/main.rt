@@ -1,5 +1,6 @@
-// Lists each example folder that its arguments name, and says whether the text is the one in the folder's file `printed`; and whether a file that
-// is saved, and a replay, are read again as they should be.
+// Lists each example folder that its arguments name, and says whether the text is the one in the folder's file `printed`; whether order queries of
+// some of them print what they should; and whether a file that is saved, and a replay, are read again as they should be.
+use arguments::Pair;
 use writer::Written;
 
 const NAMES: usize = 64;
@@ -8,6 +9,7 @@ fn main() {
     no_match();
     saved();
     replayed(b"panel");
+    ordered();
     examples();
 }
 
@@ -58,6 +60,33 @@ fn replay_is(folder: &[u8]) -> bool {
     let n = files::read(folder, b"/replayed", &mut due);
     let k = files::read(b".", b"/replay.bin", &mut space);
     console::starts_with(&space, k, &due[..n])
+}
+
+// Two events of a log asked for, the other way round, one twice, and two that are free; a refused log, and one too long.
+fn ordered() {
+    asked(b"panel", 1, 2, b"before\n");
+    asked(b"panel", 2, 1, b"after\n");
+    asked(b"panel", 2, 2, b"same\n");
+    asked(b"panel", 1, 3, b"free\n");
+    asked(b"panel", 1, 4, b"refused 16 at 0\n");
+    asked(b"held_twice", 0, 9, b"refused 11 at 3\n");
+    asked(b"missing_log", 1, 1, b"refused 4 at 0\n");
+    asked(b"at_the_limit", 1, 1, b"same\n");
+    asked(b"past_the_limit", 1, 1, b"too long\n");
+    order(b"past_the_limit", Pair::NoNumbers, b"usage: order FIRST SECOND\n");
+}
+
+fn asked(folder: &[u8], first: u64, second: u64, due: &[u8]) {
+    let pair = Pair::Numbers { first, second };
+    order(folder, pair, due);
+}
+
+fn order(folder: &[u8], pair: Pair, due: &[u8]) {
+    let mut page = [0u8; page::ROOM];
+    let written = files::order(folder, pair, &mut page);
+    io::write_all(1, folder);
+    io::write_all(1, b" order");
+    verdict(holds(written, &page, due));
 }
 
 // The example whose folder is the n-th argument.

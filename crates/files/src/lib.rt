@@ -1,5 +1,6 @@
-// Files by their names, for the programs: a folder's two files read and listed, a text printed, a file written whole.
+// Files by their names, for the programs: a folder's two files read and listed, an order query of its log, a text printed, a file written whole.
 // What the system reads and writes is assumed and not proved.
+use arguments::Pair;
 use run::Outcome;
 use writer::Written;
 ghost use Prim.Native.Nat.{ℕ, _≤_};
@@ -8,7 +9,7 @@ ghost use mathlib.Core.Bool.{false};
 ghost use lib.ListN.{length};
 ghost use lib.IntN.{pos};
 ghost use Rattle.io.specs.Counts.{Counts};
-ghost use Rattle.files.specs.Listed.{SomeListing, InPage};
+ghost use Rattle.files.specs.Listed.{SomeListing, SomeOrder, InPage};
 ghost use Rattle.files.specs.Paths.{Appended, SpareName};
 
 // How many bytes of a folder's two files were read.
@@ -27,6 +28,23 @@ pub fn list(folder: &[u8], buffer: &mut [u8]) -> Written
     let p = sizes.pattern;
     let l = sizes.log;
     listing_text::write(&pattern[..p], &log[..l], buffer)
+}
+
+// Writes what the program `order` prints for a folder's log.bin and its arguments at the start of a lent buffer. Without two numbers no file is read.
+pub fn order(folder: &[u8], pair: Pair, buffer: &mut [u8]) -> Written
+    ensures { λ r. ⌜ SomeOrder pair (now (buffer .entry)) (now (buffer .exit)) r ⌝ }
+{
+    match pair {
+        Pair::Numbers {
+            first: _,
+            second: _,
+        } => {
+            let mut log = [0u8; page::SPACE];
+            let l = read(folder, b"/log.bin", &mut log);
+            order_text::write(&log[..l], pair, buffer)
+        }
+        Pair::NoNumbers => order_text::write(b"", pair, buffer),
+    }
 }
 
 // Reads a folder's pattern.bin and log.bin, each into its own space.

@@ -1,6 +1,7 @@
--- What the program `order` prints for a log and two event numbers: "`same`, `before`, `after` or `free`; or the refusal, 16 among them".
+-- What the program `order` prints: "`same`, `before`, `after` or `free`; or the refusal, 16 among them"; or its usage.
 use Prim.Native.Nat.{ℕ, _<_, _≤_}
 use mathlib.Core.List.{List}
+use mathlib.Core.Option.{Option, some, none}
 use lib.ListN.{length}
 use Rattle.page.specs.Text.{ascii}
 use Rattle.page.specs.Lines.{longest, refusalLine, tooLongLine}
@@ -20,7 +21,13 @@ answerLine (related r) = relationLine r
 answerLine (log-refused k o) = refusalLine k o
 answerLine (query-refused k o) = refusalLine k o
 
--- "if one that the program reads is longer, it prints `too long` alone"
-pub data OrderText (log : List ℕ) (i j : ℕ) : List ℕ → Type 0 where
-  long : longest < length log → OrderText log i j tooLongLine
-  answered : {a : OrderAnswer} → length log ≤ longest → Answers log i j a → OrderText log i j (answerLine a)
+-- "`usage: ` and its usage as in the table"
+abbrev pub usageLine : List ℕ
+usageLine = ascii "usage: order FIRST SECOND\n"
+
+-- a log, the two numbers that the arguments are, or none, and the text: "usage goes before `too long` and every refusal"; "if one that the program
+-- reads is longer, it prints `too long` alone"
+pub data OrderText (log : List ℕ) : Option (ℕ × ℕ) → List ℕ → Type 0 where
+  usage : OrderText log none usageLine
+  long : {i j : ℕ} → longest < length log → OrderText log (some (i, j)) tooLongLine
+  answered : {i j : ℕ} {a : OrderAnswer} → length log ≤ longest → Answers log i j a → OrderText log (some (i, j)) (answerLine a)

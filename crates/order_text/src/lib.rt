@@ -1,4 +1,5 @@
-// The answer of an order query as a line of text in a lent buffer.
+// What the program `order` prints, as text in a lent buffer: the answer of an order query, or the program's usage.
+use arguments::Pair;
 use order_query::Order;
 use page::Page;
 use relation::Relation;
@@ -6,23 +7,34 @@ use writer::Written;
 ghost use Prim.Native.Nat.{ℕ, _≤_};
 ghost use mathlib.Core.Path.{_≡_};
 ghost use mathlib.Core.List.{List};
+ghost use mathlib.Core.Option.{some};
 ghost use lib.ListN.{length};
+ghost use Rattle.arguments.specs.Numerals.{pairIs};
 ghost use Rattle.page.specs.Page.{room, emptyPage, onto, PutIn};
 ghost use Rattle.order_query.specs.Query.{orderIs};
 ghost use Rattle.order_text.specs.OrderText.{relationLine, answerLine, OrderText};
 
-// Writes how event number `first` of a log stands to event number `second` at the start of a lent buffer.
-pub fn write(log: &[u8], first: usize, second: usize, buffer: &mut [u8]) -> Written
-    ensures { λ r. ⌜ PutIn (OrderText (now (log .entry)) first second) (now (buffer .entry)) (now (buffer .exit)) r ⌝ }
+// Writes what is printed for a log and the program's arguments, which are two event numbers or not that, at the start of a lent buffer.
+pub fn write(log: &[u8], pair: Pair, buffer: &mut [u8]) -> Written
+    ensures { λ r. ⌜ PutIn (OrderText (now (log .entry)) (pairIs pair)) (now (buffer .entry)) (now (buffer .exit)) r ⌝ }
 {
-    let page = line(log, first, second);
+    let page = line(log, pair);
     page.put(buffer)
 }
 
-fn line(log: &[u8], first: usize, second: usize) -> Page
-    ensures { λ r. ⌜ ((text : List ℕ) × OrderText (now (log .entry)) first second text × (length text ≤ room) × (r ≡ onto emptyPage text)) ⌝ }
+fn line(log: &[u8], pair: Pair) -> Page
+    ensures { λ r. ⌜ ((text : List ℕ) × OrderText (now (log .entry)) (pairIs pair) text × (length text ≤ room) × (r ≡ onto emptyPage text)) ⌝ }
 {
     let p = page::empty();
+    match pair {
+        Pair::Numbers { first, second } => asked_line(p, log, first as usize, second as usize),
+        Pair::NoNumbers => p.text(b"usage: order FIRST SECOND\n"),
+    }
+}
+
+fn asked_line(p: Page, log: &[u8], first: usize, second: usize) -> Page
+    ensures { λ r. ⌜ ((text : List ℕ) × OrderText (now (log .entry)) (some (first, second)) text × (length text ≤ room) × (r ≡ onto p text)) ⌝ }
+{
     if page::LONGEST < log.len() {
         return p.too_long();
     }

@@ -1,23 +1,27 @@
+use mathlib.Core.Path.{sym}
 use native.Mathlib.Omega.{arith}
 use borrow.Author.Needs.{needs}
-use Rattle.page.specs.Lines.{tooLongLine}
-use Rattle.order_query.specs.Query.{orderIs}
-use Rattle.order_text.specs.OrderText.{answerLine, long, answered}
-use Rattle.order_text.proofs.Lengths.{fits-a-page}
+use Rattle.order_text.specs.OrderText.{usageLine, usage}
 use Rattle.order_text.proofs.line.Statement.{statement}
 use Rattle.order_text.proofs.line.Tie as tie
 
 returns : tie.Need-returns
-returns c = (tooLongLine, long (c .before .if1 .taken), omega arith, rw (c .too-long .ensures, c .before .before .empty .ensures))
+returns c =
+    let t = c .asked-line .ensures in
+    rw (c .before .before .pair .given .1) (t .0, t .1, t .2, rw (sym (c .before .before .before .before .empty .ensures)) (t .3))
 
 returns-2 : tie.Need-returns-2
-returns-2 c =
-    let a = orderIs (c .before .query .result) in (
-      answerLine a,
-      answered (c .before .before .if1 .left) (c .before .query .ensures),
-      fits-a-page a,
-      rw (c .answer-line .ensures, c .before .before .before .empty .ensures),
-    )
+returns-2 c = rw (c .before .before .enum-told .given .1) (usageLine, usage, omega arith, rw (c .text .ensures, c .before .before .before .before .empty .ensures))
 
 pub line-spec : {M : Type 1} → statement M
-line-spec = tie.close (tie.spec (λ c κs. search needs) (λ c κs. search needs) returns (λ c κs. search needs) (λ c κs. search needs) returns-2)
+line-spec =
+    tie.close
+    (tie.spec
+    (λ c κs. search needs)
+    (λ c. search needs)
+    (λ c κs. search needs)
+    (λ c. search needs)
+    (λ c. search needs)
+    (λ c κs. search needs)
+    returns
+    returns-2)
