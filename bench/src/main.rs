@@ -1,9 +1,10 @@
 // Compares the proved run with a port of PATTERNTRACK, with decoding alone, with a session and with its own algorithm in unproved Rust, on
 // the same inputs in one process.
 //
-// With no word: agreement, the table, the goals, replays beside runs, the plot (to the file that BENCH_PLOT names, else growth.svg).
-// `agree`: agreement alone. `replay`: replays beside runs alone. `once WHO LOAD SLOTS ENDING`: one call, for a tool that counts instructions.
+// With no word: agreement, the table, the goals, replays and order queries beside runs, the plot (to the file that BENCH_PLOT names, else growth.svg).
+// `agree`: agreement alone. `beside`: replays and order queries beside runs alone. `once WHO LOAD SLOTS ENDING`: one call, for a tool that counts instructions.
 mod agree;
+mod beside;
 mod clocks;
 mod contest;
 mod decode;
@@ -14,7 +15,6 @@ mod load;
 mod patterntrack;
 mod plot;
 mod reference;
-mod replay;
 mod time;
 mod verdict;
 
@@ -39,7 +39,7 @@ fn table() {
     let rows = time::rows();
     time::print(&rows);
     goals::print(&rows);
-    replay::print();
+    beside::print();
     let file = std::env::var("BENCH_PLOT").unwrap_or("growth.svg".into());
     std::fs::write(&file, plot::growth()).expect("the plot can't be written");
     println!("\nThe plot is in {file}.");
@@ -50,7 +50,7 @@ fn main() {
     match words.first().map(String::as_str) {
         Some("once") => once(&words[1..]),
         Some("agree") => agree::all(),
-        Some("replay") => replay::print(),
+        Some("beside") => beside::print(),
         _ => {
             agree::all();
             table();

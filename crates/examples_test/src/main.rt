@@ -73,7 +73,11 @@ fn ordered() {
     asked(b"missing_log", 1, 1, b"refused 4 at 0\n");
     asked(b"at_the_limit", 1, 1, b"same\n");
     asked(b"past_the_limit", 1, 1, b"too long\n");
-    order(b"past_the_limit", Pair::NoNumbers, b"usage: order FIRST SECOND\n");
+    order(
+        b"past_the_limit",
+        Pair::NoNumbers,
+        b"usage: order FIRST SECOND\n",
+    );
 }
 
 fn asked(folder: &[u8], first: u64, second: u64, due: &[u8]) {
