@@ -1,19 +1,18 @@
 -- "The old yes is exactly "same or before"", the old no after or free, and what was refused is refused alike. Every query has exactly one answer.
 use Prim.Native.Nat.{ℕ}
-use mathlib.Core.Path.{_≡_, refl, sym, ap, subst, _∙_}
+use mathlib.Core.Path.{_≡_, refl, sym, ap, ap₂, subst, _∙_}
 use mathlib.Core.Logic.{_⊎_, inl, inr, _↔_}
 use mathlib.Core.List.{List}
 use Rattle.event.specs.declared.Event.{Event}
 use Rattle.event.specs.Slots.{noEvent}
 use Rattle.trace.proofs.Numbers.{at-numbered}
 use Rattle.dependence.specs.Order.{ComesBefore}
-use Rattle.log.specs.Whole.{Whole, refused}
-use Rattle.log.proofs.Rows.{refused-not-accepted, one-list}
+use Rattle.log.proofs.Rows.{refused-not-accepted, one-list, one-refusal}
 use Rattle.relation.specs.declared.Relation.{Relation}
 use Rattle.relation.specs.declared.Relation.the-variants.{Same, Before, After, Free}
 use Rattle.relation.specs.Relation.{Relates}
 use Rattle.relation.proofs.Relations.{comes-both, relationOf, relation-so, relation-only, yes-is-same-or-before, free-iff}
-use Rattle.order_query.specs.Query.{OrderAnswer, related, log-refused, query-refused, IsNumber, Answers}
+use Rattle.order_query.specs.Query.{OrderAnswer, related, IsNumber, Answers}
 use Rattle.order_query.specs.Query as now
 use Rattle.order_query.specs.YesOrNo.{YesOrNo, yes, no, AnswersYesOrNo, oldAnswer}
 use Rattle.order_query.specs.YesOrNo as old
@@ -36,8 +35,8 @@ module _ {bytes : List ℕ} {i j : ℕ} where
 
   -- and an old answer goes with one that is given now
   now-given : {y : YesOrNo} → AnswersYesOrNo bytes i j y → (a : OrderAnswer) × Answers bytes i j a × (oldAnswer a ≡ y)
-  now-given (old.refused-log r) = (log-refused _ _, now.refused-log r, refl)
-  now-given (old.no-number r x) = (query-refused 16 0, now.no-number r x, refl)
+  now-given (old.refused-log r) = (now.log-refused _ _, now.refused-log r, refl)
+  now-given (old.no-number r x) = (now.query-refused 16 0, now.no-number r x, refl)
   now-given (old.before {es = es} r u v c) = go (yes-is-same-or-before es (at-numbered noEvent es i u) .0 c)
     where
       go : Relates es i j Same ⊎ Relates es i j Before → (a : OrderAnswer) × Answers bytes i j a × (oldAnswer a ≡ yes)
@@ -57,17 +56,14 @@ module _ {bytes : List ℕ} {i j : ℕ} where
 
 -- ---- a query leaves no choice
 
-one-refusal : {A : Type 0} {k o k' o' : ℕ} → _≡_ {A = Whole A} (refused k o) (refused k' o') → log-refused k o ≡ log-refused k' o'
-one-refusal {k = k} {o = o} {k' = k'} {o' = o'} q = let n : k ≡ k' = cc in let p : o ≡ o' = cc in rw (n, p) refl
-
-pub one-answer : {bytes : List ℕ} {i j : ℕ} {a b : OrderAnswer} → Answers bytes i j a → Answers bytes i j b → a ≡ b
-one-answer (now.refused-log p) (now.refused-log q) = one-refusal (sym p ∙ q)
-one-answer (now.refused-log p) (now.no-number q x) = refused-not-accepted (sym p ∙ q)
-one-answer (now.refused-log p) (now.relates q u v h) = refused-not-accepted (sym p ∙ q)
-one-answer (now.no-number p x) (now.refused-log q) = refused-not-accepted (sym q ∙ p)
-one-answer (now.no-number p x) (now.no-number q y) = refl
-one-answer {i = i} {j = j} (now.no-number p x) (now.relates q u v h) = absurd (x (subst (λ (es : List Event). IsNumber es i × IsNumber es j) (one-list (sym q ∙ p)) (u, v)))
-one-answer (now.relates p u v h) (now.refused-log q) = refused-not-accepted (sym q ∙ p)
-one-answer {i = i} {j = j} (now.relates p u v h) (now.no-number q x) = absurd (x (subst (λ (es : List Event). IsNumber es i × IsNumber es j) (one-list (sym p ∙ q)) (u, v)))
-one-answer {i = i} {j = j} (now.relates {es = es} {r = r} p u v h) (now.relates {r = s} q w x g) =
+pub query-unique : {bytes : List ℕ} {i j : ℕ} {a b : OrderAnswer} → Answers bytes i j a → Answers bytes i j b → a ≡ b
+query-unique (now.refused-log p) (now.refused-log q) = let h = one-refusal (sym p ∙ q) in ap₂ now.log-refused (h .0) (h .1)
+query-unique (now.refused-log p) (now.no-number q x) = refused-not-accepted (sym p ∙ q)
+query-unique (now.refused-log p) (now.relates q u v h) = refused-not-accepted (sym p ∙ q)
+query-unique (now.no-number p x) (now.refused-log q) = refused-not-accepted (sym q ∙ p)
+query-unique (now.no-number p x) (now.no-number q y) = refl
+query-unique {i = i} {j = j} (now.no-number p x) (now.relates q u v h) = absurd (x (subst (λ (es : List Event). IsNumber es i × IsNumber es j) (one-list (sym q ∙ p)) (u, v)))
+query-unique (now.relates p u v h) (now.refused-log q) = refused-not-accepted (sym q ∙ p)
+query-unique {i = i} {j = j} (now.relates p u v h) (now.no-number q x) = absurd (x (subst (λ (es : List Event). IsNumber es i × IsNumber es j) (one-list (sym p ∙ q)) (u, v)))
+query-unique {i = i} {j = j} (now.relates {es = es} {r = r} p u v h) (now.relates {r = s} q w x g) =
     ap related (relation-only es i j r h ∙ sym (relation-only es i j s (subst (λ (ks : List Event). Relates ks i j s) (one-list (sym q ∙ p)) g)))

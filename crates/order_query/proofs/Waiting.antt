@@ -3,7 +3,8 @@ use Prim.Native.Nat.{ℕ, _+_, _<_, _≤_}
 use native.Mathlib.Numerals.{add-one}
 use native.Mathlib.Omega.{arith}
 use mathlib.Core.Path.{_≡_, refl, sym, subst, _∙_}
-use mathlib.Core.Bool.{true, false, and-eq-true-iff}
+use mathlib.Core.Logic.{_↔_}
+use mathlib.Core.Bool.{true, _&&_, and-eq-true-iff}
 use mathlib.Core.List.{List, [], _∷_, _++_, reverse, reverse-cons}
 use lib.Dec.{eqb, leb, ltb}
 use lib.ListN.{length, length-append, length-reverse}
@@ -84,27 +85,28 @@ next past i j taken v w e s clocks c low g h a =
 
 -- ---- the end of the log: the answer
 
-module _ (es : List Event) where
-  is-number : (i count : ℕ) → count ≡ length es → isNumber i count ≡ true → IsNumber es i
-  is-number i count c t =
-      let h = and-eq-true-iff (ltb 0 i) (leb i count) .0 t in
-      (ltb-true 0 i (h .0), subst (λ (k : ℕ). i ≤ k) c (leb-true i count (h .1)))
+module _ (es : List Event) (count : ℕ) (c : count ≡ length es) where
+  number-iff : (i : ℕ) → (isNumber i count ≡ true) ↔ IsNumber es i
+  number-iff i =
+      let t = and-eq-true-iff (ltb 0 i) (leb i count) in (
+        λ h. (ltb-true 0 i (t .0 h .0), subst (λ (k : ℕ). i ≤ k) c (leb-true i count (t .0 h .1))),
+        λ u. t .1 (lt-ltb 0 i (u .0), le-leb i count (rw c (u .1))),
+      )
 
-  not-number : (i count : ℕ) → count ≡ length es → isNumber i count ≡ false → IsNumber es i → ⊥
-  not-number i count c f u = both-ways (and-eq-true-iff (ltb 0 i) (leb i count) .1 (lt-ltb 0 i (u .0), le-leb i count (rw c (u .1)))) f
+  both-iff : (i j : ℕ) → (isNumber i count && isNumber j count ≡ true) ↔ (IsNumber es i × IsNumber es j)
+  both-iff i j =
+      let t = and-eq-true-iff (isNumber i count) (isNumber j count) in (
+        λ h. (number-iff i .0 (t .0 h .0), number-iff j .0 (t .0 h .1)),
+        λ u. t .1 (number-iff i .1 (u .0), number-iff j .1 (u .1)),
+      )
 
   stamped : (i : ℕ) (w : Awaited) → Waits es i w → IsNumber es i → IsStamped es i (w .event)
   stamped i w h u = h .kept _ (at-numbered noEvent es i u)
 
-pub answers : (bytes : List ℕ) (es : List Event) (i j : ℕ) (v w : Awaited) → Waits es i v → Waits es j w → accepted es ≡ readLog bytes
-    → (count : ℕ) → count ≡ length es → Answers bytes i j (answerAt v w count)
-answers bytes es i j v w g h r count c =
-    rw (g .number, h .number)
-    (by-test (isNumber i count)
-    (λ p. by-test (isNumber j count)
-    (λ q.
-    let m = is-number es i count c p in
-    let n = is-number es j count c q in
-    rw (p, q) (relates (sym r) m n (compared-right (stamped es i v g m) (stamped es j w h n))))
-    (λ q. rw (p, q) (no-number (sym r) (λ u. not-number es j count c q (u .1)))))
-    (λ p. rw p (no-number (sym r) (λ u. not-number es i count c p (u .0)))))
+  pub answers : (bytes : List ℕ) (i j : ℕ) (v w : Awaited) → Waits es i v → Waits es j w → accepted es ≡ readLog bytes
+      → Answers bytes i j (answerAt v w count)
+  answers bytes i j v w g h r =
+      rw (g .number, h .number)
+      (by-test (isNumber i count && isNumber j count)
+      (λ t. let u = both-iff i j .0 t in rw t (relates (sym r) (u .0) (u .1) (compared-right (stamped i v g (u .0)) (stamped j w h (u .1)))))
+      (λ f. rw f (no-number (sym r) (λ u. both-ways (both-iff i j .1 u) f))))

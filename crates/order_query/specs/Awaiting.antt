@@ -22,6 +22,4 @@ isNumber n count = ltb 0 n && leb n count
 -- the answer at the end of a log of so many events
 abbrev pub answerAt : Awaited → Awaited → ℕ → OrderAnswer
 answerAt a b count =
-    cond (isNumber (a .number) count)
-    (cond (isNumber (b .number) count) (related (compared (a .event) (b .event))) (query-refused 16 0))
-    (query-refused 16 0)
+    cond (isNumber (a .number) count && isNumber (b .number) count) (related (compared (a .event) (b .event))) (query-refused 16 0)

@@ -81,13 +81,8 @@ impl Awaited {
 fn answer(one: Awaited, other: Awaited, count: usize) -> Order
     ensures { λ r. ⌜ orderIs r ≡ answerAt one other count ⌝ }
 {
-    if !is_number(one.number, count) {
-        return Order::QueryRefused {
-            number: 16,
-            offset: 0,
-        };
-    }
-    if !is_number(other.number, count) {
+    let both = is_number(one.number, count) & is_number(other.number, count);
+    if !both {
         return Order::QueryRefused {
             number: 16,
             offset: 0,

@@ -12,7 +12,6 @@ use borrow.Author.Tests.{eqb-true, eq-eqb, lt-ltb, le-leb, leb-true}
 use Rattle.event.specs.declared.Event.{Event}
 use Rattle.event.proofs.Tests.{by-test}
 use Rattle.trace.specs.Before.{Numbered}
-use Rattle.trace.proofs.Lists.{both-ways}
 use Rattle.trace.proofs.Numbers.{numbered-among, numbered-append, numbered-at}
 use Rattle.trace.proofs.Stamps.{stamp-unique, comes-by-stamp}
 use Rattle.dependence.specs.Dependence.{dependent}
@@ -24,7 +23,7 @@ use Rattle.relation.specs.declared.Relation.{Relation}
 use Rattle.relation.specs.declared.Relation.the-variants.{Same, Before, After, Free}
 use Rattle.relation.specs.Relation.{Relates, IsStamped}
 use Rattle.relation.specs.Compared.{oneEvent, comesBefore, compared}
-use Rattle.relation.proofs.Relations.{comes-both, yes-is-same-or-before}
+use Rattle.relation.proofs.Relations.{comes-both, by-three, yes-is-same-or-before}
 
 -- an event has one count of a thread in its stamp
 one-count : {log : List Event} {i t m n : ℕ} {e : Event} → Numbered log i e → IsStamp log i t m → IsStamp log i t n → m ≡ n
@@ -75,19 +74,11 @@ one-event-iff {log} {i} {j} {a} {b} p q = (there, back)
         t = p .thread ∙ ap threadOf one ∙ sym (q .thread)
 
         l : a .place ≡ b .place
-        l =
-            one-count (p .numbered) (p .place)
-            (rw (e, one) (q .place))
+        l = one-count (p .numbered) (p .place) (rw (e, one) (q .place))
 
 -- the comparison is right for every two stamped events of a log
 pub compared-right : {log : List Event} {i j : ℕ} {a b : StampedEvent} → IsStamped log i a → IsStamped log j b → Relates log i j (compared a b)
-compared-right {log} {i} {j} {a} {b} p q =
-    by-test (oneEvent a b) (λ e. rw e (one-event-iff p q .0 e))
-    (λ e.
-    let d : i ≡ j → ⊥ = λ z. both-ways (one-event-iff p q .1 z) e in
-    by-test (comesBefore (a .thread) (a .place) (b .stamp)) (λ c. rw (e, c) (comes-by-place p q .0 c, d))
-    (λ c. by-test (comesBefore (b .thread) (b .place) (a .stamp)) (λ k. rw (e, c, k) (comes-by-place q p .0 k, λ z. d (sym z)))
-    (λ k. rw (e, c, k) (d, λ x. both-ways (comes-by-place p q .1 (x .0)) c, λ x. both-ways (comes-by-place q p .1 (x .0)) k))))
+compared-right {log} p q = by-three log _ _ _ (one-event-iff p q) (comes-by-place p q) (comes-by-place q p)
 
 -- "The old yes is exactly "same or before"", of the comparison that answered yes or no
 pub yes-by-stamps : {log : List Event} {i j : ℕ} {a b : StampedEvent} → IsStamped log i a → IsStamped log j b

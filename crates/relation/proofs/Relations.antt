@@ -4,7 +4,7 @@ use Prim.Native.Nat.{ℕ, _≤_}
 use native.Mathlib.Nat.{le-antisymm}
 use mathlib.Core.Path.{_≡_, refl, sym, subst}
 use mathlib.Core.Logic.{_⊎_, inl, inr, _↔_}
-use mathlib.Core.Bool.{Bool, true, false, cond}
+use mathlib.Core.Bool.{Bool, true, false, cond, false≢true}
 use mathlib.Core.List.{List}
 use lib.Dec.{eqb}
 use borrow.Author.Tests.{eqb-true, eqb-false, eq-eqb, ne-eqb}
@@ -13,7 +13,6 @@ use Rattle.event.specs.Slots.{noEvent}
 use Rattle.event.proofs.Tests.{by-test}
 use Rattle.trace.specs.Before.{Numbered, same}
 use Rattle.trace.specs.Tuples.{depAt}
-use Rattle.trace.proofs.Lists.{both-ways}
 use Rattle.trace.proofs.Before.{before-le}
 use Rattle.trace.proofs.Numbers.{comes-before, comes?, comes?-iff}
 use Rattle.dependence.specs.Dependence.{dependent}
@@ -30,6 +29,14 @@ module _ (log : List Event) where
   pub comes-both : {i j : ℕ} → ComesBefore log i j → ComesBefore log j i → i ≡ j
   comes-both c d = le-antisymm (comes-le c) (comes-le d)
 
+  -- three tests, of "is" and of "comes before or is" both ways round, tell which of the four is so
+  pub by-three : {i j : ℕ} (x y z : Bool) → (x ≡ true) ↔ (i ≡ j) → (y ≡ true) ↔ ComesBefore log i j → (z ≡ true) ↔ ComesBefore log j i
+      → Relates log i j (cond x Same (cond y Before (cond z After Free)))
+  by-three true y z f g h = f .0 refl
+  by-three false true z f g h = (g .0 refl, λ e. false≢true (f .1 e))
+  by-three false false true f g h = (h .0 refl, λ e. false≢true (f .1 (sym e)))
+  by-three false false false f g h = (λ e. false≢true (f .1 e), λ p. false≢true (g .1 (p .0)), λ p. false≢true (h .1 (p .0)))
+
   -- ---- exactly one
 
   abbrev comes : ℕ → ℕ → Bool
@@ -41,24 +48,12 @@ module _ (log : List Event) where
   comes-false : {i j : ℕ} → ¬ ComesBefore log i j → comes i j ≡ false
   comes-false {i} {j} d = by-test (comes i j) (λ t. absurd (d (comes?-iff noEvent dependent log i j .0 t))) (λ f. f)
 
-  true-comes : {i j : ℕ} → comes i j ≡ true → ComesBefore log i j
-  true-comes {i} {j} t = comes?-iff noEvent dependent log i j .0 t
-
-  false-comes : {i j : ℕ} → comes i j ≡ false → ¬ ComesBefore log i j
-  false-comes f c = both-ways (comes-true c) f
-
   -- the answer, computed
   abbrev pub relationOf : ℕ → ℕ → Relation
   relationOf i j = cond (eqb i j) Same (cond (comes i j) Before (cond (comes j i) After Free))
 
   pub relation-so : (i j : ℕ) → Relates log i j (relationOf i j)
-  relation-so i j =
-      by-test (eqb i j) (λ e. rw e (eqb-true i j e))
-      (λ e.
-      let d = eqb-false i j e in
-      by-test (comes i j) (λ c. rw (e, c) (true-comes c, d))
-      (λ c. by-test (comes j i) (λ k. rw (e, c, k) (true-comes k, λ z. d (sym z)))
-      (λ k. rw (e, c, k) (d, λ p. false-comes c (p .0), λ p. false-comes k (p .0)))))
+  relation-so i j = by-three (eqb i j) (comes i j) (comes j i) (eqb-true i j, eq-eqb i j) (comes?-iff noEvent dependent log i j) (comes?-iff noEvent dependent log j i)
 
   pub relation-only : (i j : ℕ) (r : Relation) → Relates log i j r → r ≡ relationOf i j
   relation-only i j Same e = rw (eq-eqb i j e) refl

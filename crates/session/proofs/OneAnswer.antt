@@ -2,7 +2,7 @@
 use Prim.Native.Nat.{ℕ, _<_}
 use native.Mathlib.Decide.{decLt}
 use native.Mathlib.Omega.{arith}
-use mathlib.Core.Path.{_≡_, refl, sym, ap, subst, _∙_}
+use mathlib.Core.Path.{_≡_, refl, sym, ap, ap₂, subst, _∙_}
 use mathlib.Core.Bool.{false≢true}
 use mathlib.Core.List.{List}
 use lib.ListN.{length, getD, take}
@@ -18,7 +18,7 @@ use Rattle.dependence.specs.Dependence.{dependent}
 use Rattle.dependence.specs.Order.{HasMatch, IsCount, IsFirst}
 use Rattle.dependence.proofs.Dependent.{fit-one-slot}
 use Rattle.log.specs.Whole.{Whole, refused}
-use Rattle.log.proofs.Rows.{refused-not-accepted, one-list}
+use Rattle.log.proofs.Rows.{refused-not-accepted, one-list, one-refusal}
 use Rattle.session.specs.Answers.{refusal, Ruling, Given}
 use Rattle.session.specs.Meaning.{VerdictOf, RunOn, log-refused, judged, RunOf, pattern-refused, over-log}
 
@@ -72,12 +72,11 @@ pub record SameGiven (g h : Given) : Type 0 where
   pub refusal : g .refusal ≡ h .refusal
   pub ruling : SameRuling (g .ruling) (h .ruling)
 
--- what is refused is so by one number and offset
-one-refusal : {A : Type 0} {k o k' o' : ℕ} → _≡_ {A = Whole A} (refused k o) (refused k' o') → refusal k o ≡ refusal k' o'
-one-refusal {k = k} {o = o} {k' = k'} {o' = o'} q = let n : k ≡ k' = cc in let p : o ≡ o' = cc in rw (n, p) refl
+refused-alike : {A : Type 0} {k o k' o' : ℕ} → _≡_ {A = Whole A} (refused k o) (refused k' o') → refusal k o ≡ refusal k' o'
+refused-alike q = ap₂ refusal (one-refusal q .0) (one-refusal q .1)
 
 one-on : {ss : List Slot} {bytes : List ℕ} {g h : Given} → RunOn ss bytes g → RunOn ss bytes h → SameGiven g h
-one-on (log-refused p) (log-refused q) = record { refused = refl; refusal = one-refusal (sym p ∙ q); ruling = itself _ }
+one-on (log-refused p) (log-refused q) = record { refused = refl; refusal = refused-alike (sym p ∙ q); ruling = itself _ }
 one-on (log-refused p) (judged q w g) = refused-not-accepted (sym p ∙ q)
 one-on (judged p v f) (log-refused q) = refused-not-accepted (sym q ∙ p)
 one-on {ss} (judged {es = es} {r = r} p v f) (judged {es = es'} {r = s} q w g) =
@@ -91,7 +90,7 @@ one-on {ss} (judged {es = es} {r = r} p v f) (judged {es = es'} {r = s} q w g) =
     }
 
 pub one-answer : {pattern bytes : List ℕ} {g h : Given} → RunOf pattern bytes g → RunOf pattern bytes h → SameGiven g h
-one-answer (pattern-refused p) (pattern-refused q) = record { refused = refl; refusal = one-refusal (sym p ∙ q); ruling = itself _ }
+one-answer (pattern-refused p) (pattern-refused q) = record { refused = refl; refusal = refused-alike (sym p ∙ q); ruling = itself _ }
 one-answer (pattern-refused p) (over-log q r) = refused-not-accepted (sym p ∙ q)
 one-answer (over-log p r) (pattern-refused q) = refused-not-accepted (sym q ∙ p)
 one-answer {bytes = bytes} {h = h} (over-log {ss = ss} p r) (over-log {ss = ss'} q s) =

@@ -43,8 +43,8 @@ returns c =
     let s = c .before .before .before .step in
     let q = the-end (s .result) (c .before .before .match .keys2) (c .before .match2 .keys2) in
     rw (c .answer .ensures)
-    (answers (args .log .now) (reverse (l .inv .0)) (args .first) (args .second) (l .one) (l .other) (l .inv .3) (l .inv .4)
-    (at-end (l .inv .1) (s .ensures .1 .1) q) (l .taken) (l .inv .1 .count ∙ sym (length-reverse (l .inv .0))))
+    (answers (reverse (l .inv .0)) (l .taken) (l .inv .1 .count ∙ sym (length-reverse (l .inv .0))) (args .log .now) (args .first) (args .second) (l .one)
+    (l .other) (l .inv .3) (l .inv .4) (at-end (l .inv .1) (s .ensures .1 .1) q))
 
 returns-2 : tie.Need-returns-2 Inv-loop μ-loop
 returns-2 c =
