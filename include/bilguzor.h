@@ -151,7 +151,7 @@ bilguzor_replayed bilguzor_replay(
 /* How event number `first` of the log, counted from 1, stands to event number `second`: BILGUZOR_SAME where the numbers are equal; BILGUZOR_BEFORE
  * where a chain of events rising in the log, each dependent on the next, leads from the first to the second; BILGUZOR_AFTER where one leads from the
  * second to the first; else BILGUZOR_FREE. A refused log answers BILGUZOR_LOG_REFUSED (3 to 14); a number that no event of the log has then
- * BILGUZOR_QUERY_REFUSED (16). */
+ * BILGUZOR_QUERY_REFUSED (16). Up to version 3 it answered BILGUZOR_YES for same and before, BILGUZOR_NO for after and free. */
 bilguzor_ordering bilguzor_order(const uint8_t *log, size_t log_size, size_t first, size_t second);
 
 /* Opens a session on a pattern. A refused pattern (1 to 8) still gives a session, on the lone slot thread 0, mark 0. */

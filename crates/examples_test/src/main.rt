@@ -13,9 +13,10 @@ fn main() {
     examples();
 }
 
+// Their folders are named after two numbers.
 fn examples() {
     let count = os::arg_count();
-    for n in 1..NAMES {
+    for n in 3..NAMES {
         if n < count {
             example(n);
         }
@@ -62,7 +63,8 @@ fn replay_is(folder: &[u8]) -> bool {
     console::starts_with(&space, k, &due[..n])
 }
 
-// Two events of a log asked for, the other way round, one twice, and two that are free; a refused log, and one too long.
+// All four answers; an event that is not there; a log that is refused, missing, just short enough, too long. The program's own arguments begin with
+// two numbers and are too many, so that the usage is printed.
 fn ordered() {
     asked(b"panel", 1, 2, b"before\n");
     asked(b"panel", 2, 1, b"after\n");
@@ -73,11 +75,8 @@ fn ordered() {
     asked(b"missing_log", 1, 1, b"refused 4 at 0\n");
     asked(b"at_the_limit", 1, 1, b"same\n");
     asked(b"past_the_limit", 1, 1, b"too long\n");
-    order(
-        b"past_the_limit",
-        Pair::NoNumbers,
-        b"usage: order FIRST SECOND\n",
-    );
+    let pair = arguments::given_pair();
+    order(b"past_the_limit", pair, b"usage: order FIRST SECOND\n");
 }
 
 fn asked(folder: &[u8], first: u64, second: u64, due: &[u8]) {
@@ -117,7 +116,7 @@ fn verdict(same: bool) {
     }
 }
 
-// Whether the listing was written, and is the text.
+// Whether a text was written, and is this one.
 fn holds(written: Written, page: &[u8], text: &[u8]) -> bool {
     match written {
         Written::Next { at } => console::starts_with(page, at, text),

@@ -25,7 +25,7 @@ use Rattle.session.specs.Meaning.{RunOf, pattern-refused, over-log, log-refused
 use Rattle.event.proofs.Tests.{by-test}
 use Rattle.page.specs.Lines.{refusalLine}
 use Rattle.listing_text.specs.Text.{slotLine, patternRefusalLine, noMatchLine, matchLine}
-use Rattle.listing_text.specs.Told.{linesOf, textOf}
+use Rattle.listing_text.specs.OutcomeText.{linesOf, textOf}
 use Rattle.listing_text.specs.Listing as listing
 use Rattle.listing_text.specs.Listing.{SlotLines}
 use Rattle.listing_text.proofs.SlotLines.{no-line, a-line}

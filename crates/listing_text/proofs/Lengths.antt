@@ -19,7 +19,7 @@ use Rattle.page.specs.Lines.{refusalLine}
 use Rattle.page.specs.Page.{room}
 use Rattle.page.proofs.Lengths.{number, refusal}
 use Rattle.listing_text.specs.Text.{metresText, heightText, operationText, slotLine}
-use Rattle.listing_text.specs.Told.{linesOf, textOf}
+use Rattle.listing_text.specs.OutcomeText.{linesOf, textOf}
 
 metres : (m : Metres) → length (metresText m) ≤ 42
 metres m =

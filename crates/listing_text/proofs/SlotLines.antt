@@ -11,7 +11,7 @@ use Rattle.page.specs.declared.Page.{Page}
 use Rattle.page.specs.Page.{onto}
 use Rattle.page.proofs.Onto.{onto-append, onto-none}
 use Rattle.listing_text.specs.Text.{slotLine}
-use Rattle.listing_text.specs.Told.{linesOf}
+use Rattle.listing_text.specs.OutcomeText.{linesOf}
 
 module _ (bytes : List ℕ) (slot n : ℕ) (ns : List ℕ) where
   pub no-line : n ≡ 0 → linesOf bytes slot (n ∷ ns) ≡ []

@@ -14,7 +14,7 @@ ghost use lib.ListN.{length};
 ghost use Rattle.page.specs.Text.{ascii};
 ghost use Rattle.page.specs.Page.{room, emptyPage, onto};
 ghost use Rattle.listing_text.specs.Text.{metresText, heightText, operationText, slotLine, matchLine};
-ghost use Rattle.listing_text.specs.Told.{linesOf, textOf};
+ghost use Rattle.listing_text.specs.OutcomeText.{linesOf, textOf};
 ghost use Rattle.listing_text.specs.Listing.{Listing, ListedIn};
 
 pub const NO_MATCH: [u8; 9] = *b"no match\n";

@@ -48,8 +48,8 @@ module _ (es : List Event) (e : Event) (s : Stamp) (low : e .thread < threads) (
   newest : (a : Event) → Numbered longer n a → a ≡ e
   newest a x = sym (numbered-at e x) ∙ rw (add-one (length es)) (event-new e es e)
 
-  pub passes : (i : ℕ) (w : Awaited) → Waits es i w → Waits longer i (met w n (e .thread) s)
-  passes i w h =
+  pub meets-next : (i : ℕ) (w : Awaited) → Waits es i w → Waits longer i (met w n (e .thread) s)
+  meets-next i w h =
       by-test (eqb n (w .number))
       (λ q.
       let p : n ≡ i = eqb-true _ _ q ∙ h .number in
@@ -81,7 +81,7 @@ pub next : (past : List Event) (i j taken : ℕ) (v w : Awaited) (e : Event) (s 
     → ClocksOf (reverse (e ∷ past)) clocks × Waits (reverse (e ∷ past)) i (met v (taken + 1) (e .thread) s) × Waits (reverse (e ∷ past)) j (met w (taken + 1) (e .thread) s)
 next past i j taken v w e s clocks c low g h a =
     let n : taken ≡ length (reverse past) = c ∙ sym (length-reverse past) in
-    rw (reverse-cons e past, n) (a .holds, passes (reverse past) e s low (a .stamp) i v g, passes (reverse past) e s low (a .stamp) j w h)
+    rw (reverse-cons e past, n) (a .holds, meets-next (reverse past) e s low (a .stamp) i v g, meets-next (reverse past) e s low (a .stamp) j w h)
 
 -- ---- the end of the log: the answer
 

@@ -8,6 +8,7 @@ use Rattle.relation.specs.Compared.{compared}
 use Rattle.order_query.specs.declared.Awaited.{Awaited}
 use Rattle.order_query.specs.Query.{OrderAnswer, related, query-refused}
 
+-- an event waited for by its number, before any has passed
 abbrev pub notYet : ℕ → Awaited
 notYet n = record { number = n; event = record { thread = 0; place = 0; stamp = noStamp } }
 

@@ -16,6 +16,7 @@ pub data OrderAnswer : Type 0 where
   related : Relation → OrderAnswer
   log-refused query-refused : ℕ → ℕ → OrderAnswer
 
+-- which outcome each case of the program's answer stands for
 abbrev pub orderIs : Order → OrderAnswer
 orderIs (case.Related r) = related r
 orderIs (case.LogRefused k o) = log-refused k o

@@ -1,2 +1,3 @@
--- How long the line is.
+-- How long the line is, and that there is one.
 pub mod Lengths
+pub mod OneText

@@ -9,6 +9,7 @@ use Rattle.relation.specs.declared.Relation.{Relation}
 use Rattle.relation.specs.declared.Relation.the-variants.{Same, Before, After, Free}
 use Rattle.order_query.specs.Query.{OrderAnswer, related, log-refused, query-refused, Answers}
 
+-- "`same`, `before`, `after` or `free`"; "Each line ends in a line feed."
 abbrev pub relationLine : Relation → List ℕ
 relationLine Same = ascii "same\n"
 relationLine Before = ascii "before\n"

@@ -3,7 +3,7 @@ use Prim.Native.Nat.{ℕ}
 use mathlib.Core.List.{List, _++_}
 use Rattle.page.specs.Text.{ascii, decimal}
 
--- "each at most 65,536 bytes"
+-- "each at most 65,536 bytes"; of the other programs: "have at most 65,536 bytes each"
 abbrev pub longest : ℕ
 longest = 65536
 

@@ -13,6 +13,7 @@ use Rattle.page.specs.declared.Page.{Page}
 abbrev pub room : ℕ
 room = 1024
 
+-- a page before any byte
 abbrev pub emptyPage : Page
 emptyPage = record { bytes = replicate room 0; size = 0 }
 
@@ -20,6 +21,7 @@ emptyPage = record { bytes = replicate room 0; size = 0 }
 abbrev pub with : Page → ℕ → Page
 with p b = cond (ltb (p .size) room) (record { bytes = set (p .bytes) (p .size) b; size = p .size + 1 }) p
 
+-- a page with these bytes more, one after another
 unfoldable pub onto : Page → List ℕ → Page
 onto p [] = p
 onto p (b ∷ bs) = onto (with p b) bs
@@ -28,7 +30,7 @@ onto p (b ∷ bs) = onto (with p b) bs
 abbrev pub held : Page → List ℕ
 held p = take (p .size) (p .bytes)
 
--- a text of this kind written at the start of a lent buffer; or 15, and the buffer as it was, where it is shorter than the text
+-- a text of this kind written at the start of a lent buffer, at place 0 and without a refusal of its own; or 15, and the buffer as it was, where it is shorter than the text
 pub record PutIn (Kind : List ℕ → Type 0) (before after : List ℕ) (r : Written) : Type 0 where
   pub text : List ℕ
   pub kind : Kind text

@@ -29,7 +29,7 @@ use Rattle.trace.proofs.FirstArrivals.{seen, seen-snoc, place-seen}
 use Rattle.clock.specs.declared.Stamp.{Stamp}
 use Rattle.clock.specs.Clocks.{highestCount, up, stampBy, clocksAfter}
 use Rattle.clock.specs.Arrivals.{StampOf, ClocksOf}
-use Rattle.clock.proofs.Later.{count-stays}
+use Rattle.clock.proofs.Later.{entry-stays}
 use Rattle.command.specs.Reading.{command, readEvent}
 use Rattle.log.proofs.Leading.{Midway, at-start, past-it, within-limits}
 use Rattle.passes.specs.LastPlaces.{lastBy}
@@ -139,7 +139,7 @@ module _ {bytes : List ℕ} {es : List Event} {n : ℕ} (ls : Leads bytes es n) 
 -- ---- the stamp of an event
 
 pub stamp-stays : (es later : List Event) (n : ℕ) (s : Stamp) → 0 < n → n ≤ length es → StampOf es n s → StampOf (es ++ later) n s
-stamp-stays es later n s p l h t low = count-stays es later n t _ (eventAt noEvent es n) (at-numbered noEvent es n (p, l)) (h t low)
+stamp-stays es later n s p l h t low = entry-stays es later n t _ (eventAt noEvent es n) (at-numbered noEvent es n (p, l)) (h t low)
 
 -- i events gone past, which the clocks hold, with the last places; and the stamp of the last of them
 pub record Followed (bytes : List ℕ) (es : List Event) (keys : List ℕ) (last₀ : List ℕ) (clocks last : List ℕ) (stamp : Stamp) (at i : ℕ) : Type 0 where

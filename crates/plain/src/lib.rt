@@ -164,7 +164,7 @@ pub fn dependent(a: u32, b: u32) -> bool
 }
 
 // Whether event i comes before event j or is it, at 8 * j + i; both counted from 0.
-pub fn relation(events: [u32; MOST]) -> [bool; 64]
+pub fn all_before(events: [u32; MOST]) -> [bool; 64]
     ensures { λ r. ⌜ r ≡ columnsTo 8 events ⌝ }
 {
     let mut before = [false; 64];
@@ -232,7 +232,7 @@ pub fn dependent_places(events: [u32; MOST], i: usize, j: usize) -> bool
     dependent(events[i], events[j])
 }
 
-// The entry of the relation for events i and j.
+// The entry for events i and j.
 pub fn at(before: &[bool; 64], i: usize, j: usize) -> bool
     ensures { λ r. ⌜ r ≡ entry (now (before .entry)) i j ⌝ }
 {

@@ -6,7 +6,6 @@ use mathlib.Core.Path.{_≡_, refl, sym, ap, subst, _∙_}
 use mathlib.Core.Logic.{_⊎_, inl, inr, _↔_}
 use mathlib.Core.Bool.{Bool, true, cond, and-eq-true-iff}
 use mathlib.Core.List.{List, _++_}
-use lib.Dec.{eqb}
 use lib.ListN.{getD}
 use borrow.Author.Tests.{eqb-true, eq-eqb, lt-ltb, le-leb, leb-true}
 use Rattle.event.specs.declared.Event.{Event}
@@ -17,7 +16,7 @@ use Rattle.trace.proofs.Stamps.{stamp-unique, comes-by-stamp}
 use Rattle.dependence.specs.Dependence.{dependent}
 use Rattle.dependence.specs.Order.{ComesBefore, threadOf, IsStamp}
 use Rattle.dependence.proofs.Dependent.{one-thread}
-use Rattle.clock.proofs.Later.{count-stays}
+use Rattle.clock.proofs.Later.{entry-stays}
 use Rattle.relation.specs.declared.StampedEvent.{StampedEvent}
 use Rattle.relation.specs.declared.Relation.{Relation}
 use Rattle.relation.specs.declared.Relation.the-variants.{Same, Before, After, Free}
@@ -26,8 +25,8 @@ use Rattle.relation.specs.Compared.{oneEvent, comesBefore, compared}
 use Rattle.relation.proofs.Relations.{comes-both, by-three, yes-is-same-or-before}
 
 -- an event has one count of a thread in its stamp
-one-count : {log : List Event} {i t m n : ℕ} {e : Event} → Numbered log i e → IsStamp log i t m → IsStamp log i t n → m ≡ n
-one-count {log} {i} {t} {m} {n} {e} x p q =
+one-entry : {log : List Event} {i t m n : ℕ} {e : Event} → Numbered log i e → IsStamp log i t m → IsStamp log i t n → m ≡ n
+one-entry {log} {i} {t} {m} {n} {e} x p q =
     sym (stamp-unique e dependent threadOf log i t m (numbered-among x) p) ∙ stamp-unique e dependent threadOf log i t n (numbered-among x) q
 
 module _ {log : List Event} {i j : ℕ} {a b : StampedEvent} (p : IsStamped log i a) (q : IsStamped log j b) where
@@ -45,7 +44,7 @@ module _ {log : List Event} {i j : ℕ} {a b : StampedEvent} (p : IsStamped log 
   by-one-place t l = comes-by-place .0 (rw (t, q .thread, lt-ltb _ _ (q .known)) (le-leb (a .place) (getD (b .stamp .at) (q .event .thread) 0) reaches))
     where
       own : b .place ≡ getD (b .stamp .at) (q .event .thread) 0
-      own = one-count (q .numbered) (q .place) (q .stamp (q .event .thread) (q .known))
+      own = one-entry (q .numbered) (q .place) (q .stamp (q .event .thread) (q .known))
 
       reaches : a .place ≤ getD (b .stamp .at) (q .event .thread) 0
       reaches = subst (λ (n : ℕ). a .place ≤ n) (l ∙ own) (le-refl (a .place))
@@ -56,13 +55,13 @@ one-event-iff {log} {i} {j} {a} {b} p q = (there, back)
   where
     there : oneEvent a b ≡ true → i ≡ j
     there e =
-        let h = and-eq-true-iff (eqb (a .thread) (b .thread)) (eqb (a .place) (b .place)) .0 e in
+        let h = and-eq-true-iff _ _ .0 e in
         let t = eqb-true _ _ (h .0) in
         let l = eqb-true _ _ (h .1) in
         comes-both log (by-one-place p q t l) (by-one-place q p (sym t) (sym l))
 
     back : i ≡ j → oneEvent a b ≡ true
-    back e = and-eq-true-iff (eqb (a .thread) (b .thread)) (eqb (a .place) (b .place)) .1 (eq-eqb _ _ t, eq-eqb _ _ l)
+    back e = and-eq-true-iff _ _ .1 (eq-eqb _ _ t, eq-eqb _ _ l)
       where
         n : Numbered log i (q .event)
         n = subst (λ (k : ℕ). Numbered log k (q .event)) (sym e) (q .numbered)
@@ -74,7 +73,7 @@ one-event-iff {log} {i} {j} {a} {b} p q = (there, back)
         t = p .thread ∙ ap threadOf one ∙ sym (q .thread)
 
         l : a .place ≡ b .place
-        l = one-count (p .numbered) (p .place) (rw (e, one) (q .place))
+        l = one-entry (p .numbered) (p .place) (rw (e, one) (q .place))
 
 -- the comparison is right for every two stamped events of a log
 pub compared-right : {log : List Event} {i j : ℕ} {a b : StampedEvent} → IsStamped log i a → IsStamped log j b → Relates log i j (compared a b)
@@ -109,6 +108,6 @@ stamped-stays log later {i} {s} p =
       numbered = numbered-append later (p .numbered);
       thread = p .thread;
       known = p .known;
-      place = count-stays log later i (p .event .thread) (s .place) (p .event) (p .numbered) (p .place);
-      stamp = λ t low. count-stays log later i t _ (p .event) (p .numbered) (p .stamp t low);
+      place = entry-stays log later i (p .event .thread) (s .place) (p .event) (p .numbered) (p .place);
+      stamp = λ t low. entry-stays log later i t _ (p .event) (p .numbered) (p .stamp t low);
     }

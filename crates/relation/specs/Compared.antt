@@ -18,6 +18,7 @@ oneEvent a b = eqb (a .thread) (b .thread) && eqb (a .place) (b .place)
 abbrev pub comesBefore : ℕ → ℕ → Stamp → Bool
 comesBefore t place later = ltb t threads && leb place (getD (later .at) t 0)
 
+-- the first of the three tests that is met tells the answer, and free is without any
 abbrev pub compared : StampedEvent → StampedEvent → Relation
 compared a b =
     cond (oneEvent a b) Same

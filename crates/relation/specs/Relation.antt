@@ -31,7 +31,8 @@ mirrored Before = After
 mirrored After = Before
 mirrored Free = Free
 
--- "two stamped events": s is what is known of event number i of the log. Its place in its thread is the count of its own thread in its stamp.
+-- "two stamped events": s is what is known of event number i of the log. Its place in its thread is the count of its own thread in its stamp
+-- (trace/proofs/Stamps `place-stamp`: how many events up to it are of that thread); a stamp counts threads below the limit alone.
 pub record IsStamped (log : List Event) (i : ℕ) (s : StampedEvent) : Type 0 where
   pub event : Event
   pub numbered : Numbered log i event

@@ -15,7 +15,7 @@ pub enum Relation {
     Free,
 }
 
-// What is known of an event of a log: its thread, its place among the events of that thread, counted from 1, and its stamp.
+// What is known of an event of a log: its thread, its place there (how many events of that thread come before it or are it), and its stamp.
 pub struct StampedEvent {
     pub thread: u8,
     pub place: u16,

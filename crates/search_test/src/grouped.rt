@@ -1,4 +1,4 @@
-// The bytes of a replay by the words of document 02, Note 1, with the plain relation of the log's events.
+// The bytes of a replay by the words of document 02, Note 1, with the chains of the log's events computed plainly.
 use crate::compare;
 use crate::truth::Truth;
 use command::EventRead;

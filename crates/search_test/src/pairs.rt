@@ -19,7 +19,7 @@ const FREE: u64 = 3;
 // Numbers 0 to 8: no log has more than seven events.
 pub(crate) fn of(log: &[u8], l: Leading, counts: &mut [u64; COUNTS]) {
     let events = l.events;
-    let before = plain::relation(events);
+    let before = plain::all_before(events);
     let read = log::read_log(log);
     for k in 0..81 {
         let answer = answer_number(order_query::query(log, k / 9, k % 9));

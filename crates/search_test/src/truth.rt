@@ -18,7 +18,7 @@ pub struct Truth {
 
 pub(crate) fn of(queue: &mut [u32], seen: &mut [bool], leading: Leading, sketch: Sketch) -> Truth {
     let events = leading.events;
-    let before = plain::relation(events);
+    let before = plain::all_before(events);
     let mut found = [false; MOST];
     let mut orders: u64 = 0;
     let mut most: u64 = 0;

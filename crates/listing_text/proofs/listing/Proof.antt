@@ -1,7 +1,7 @@
 use Rattle.listing_text.proofs.Lengths.{fits-a-page}
 use Rattle.listing_text.proofs.Judgement.{listed}
 use Rattle.listing_text.specs.Listing.{long-pattern, long-log, judged}
-use Rattle.listing_text.specs.Told.{textOf}
+use Rattle.listing_text.specs.OutcomeText.{textOf}
 use Rattle.page.specs.Lines.{tooLongLine}
 use lib.ListN.{length}
 use mathlib.Core.Path.{_≡_}

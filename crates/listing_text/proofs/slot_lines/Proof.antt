@@ -6,7 +6,7 @@ use lib.ListN.{length, getD}
 use mathlib.Core.Path.{refl, ap, _∙_}
 use native.Mathlib.Omega.{arith}
 use Rattle.page.specs.Page.{onto}
-use Rattle.listing_text.specs.Told.{linesOf}
+use Rattle.listing_text.specs.OutcomeText.{linesOf}
 use lib.ListN.{drop}
 use mathlib.Core.Path.{_≡_}
 use Prim.Native.Nat.{_+_, _-_, _≤_}
