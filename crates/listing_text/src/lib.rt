@@ -6,13 +6,11 @@ use page::Page;
 use run::Judged;
 use run::Outcome;
 use writer::Written;
-ghost use Prim.Native.Nat.{ℕ, _≤_};
 ghost use mathlib.Core.Path.{_≡_};
 ghost use mathlib.Core.Bool.{cond};
-ghost use mathlib.Core.List.{List, []};
-ghost use lib.ListN.{length};
+ghost use mathlib.Core.List.{[]};
 ghost use Rattle.page.specs.Text.{ascii};
-ghost use Rattle.page.specs.Page.{room, emptyPage, onto};
+ghost use Rattle.page.specs.Page.{emptyPage, onto, Adds};
 ghost use Rattle.listing_text.specs.Text.{metresText, heightText, operationText, slotLine, matchLine};
 ghost use Rattle.listing_text.specs.OutcomeText.{linesOf, textOf};
 ghost use Rattle.listing_text.specs.Listing.{Listing, ListedIn};
@@ -28,7 +26,7 @@ pub fn write(pattern: &[u8], log: &[u8], buffer: &mut [u8]) -> Written
 }
 
 fn listing(pattern: &[u8], log: &[u8]) -> Page
-    ensures { λ r. ⌜ ((text : List ℕ) × Listing (now (pattern .entry)) (now (log .entry)) text × (length text ≤ room) × (r ≡ onto emptyPage text)) ⌝ }
+    ensures { λ r. ⌜ Adds (Listing (now (pattern .entry)) (now (log .entry))) emptyPage r ⌝ }
 {
     let p = page::empty();
     if page::LONGEST < pattern.len() {

@@ -4,13 +4,10 @@ use order_query::Order;
 use page::Page;
 use relation::Relation;
 use writer::Written;
-ghost use Prim.Native.Nat.{ℕ, _≤_};
 ghost use mathlib.Core.Path.{_≡_};
-ghost use mathlib.Core.List.{List};
 ghost use mathlib.Core.Option.{some};
-ghost use lib.ListN.{length};
 ghost use Rattle.arguments.specs.Numerals.{pairIs};
-ghost use Rattle.page.specs.Page.{room, emptyPage, onto, PutIn};
+ghost use Rattle.page.specs.Page.{emptyPage, onto, Adds, PutIn};
 ghost use Rattle.order_query.specs.Query.{orderIs};
 ghost use Rattle.order_text.specs.OrderText.{relationLine, answerLine, OrderText};
 
@@ -23,7 +20,7 @@ pub fn write(log: &[u8], pair: Pair, buffer: &mut [u8]) -> Written
 }
 
 fn line(log: &[u8], pair: Pair) -> Page
-    ensures { λ r. ⌜ ((text : List ℕ) × OrderText (now (log .entry)) (pairIs pair) text × (length text ≤ room) × (r ≡ onto emptyPage text)) ⌝ }
+    ensures { λ r. ⌜ Adds (OrderText (now (log .entry)) (pairIs pair)) emptyPage r ⌝ }
 {
     let p = page::empty();
     match pair {
@@ -33,7 +30,7 @@ fn line(log: &[u8], pair: Pair) -> Page
 }
 
 fn asked_line(p: Page, log: &[u8], first: usize, second: usize) -> Page
-    ensures { λ r. ⌜ ((text : List ℕ) × OrderText (now (log .entry)) (some (first, second)) text × (length text ≤ room) × (r ≡ onto p text)) ⌝ }
+    ensures { λ r. ⌜ Adds (OrderText (now (log .entry)) (some (first, second))) p r ⌝ }
 {
     if page::LONGEST < log.len() {
         return p.too_long();

@@ -12,15 +12,14 @@ use Rattle.writer.specs.declared.Written.the-variants.{Next}
 use Rattle.writer.specs.Writing.{writtenIs, written, refused, writing, hasRoom, bufferAfter}
 use Rattle.writer.proofs.Buffers.{puts, length-put}
 use Rattle.page.specs.declared.Page.{Page}
-use Rattle.page.specs.Page.{room, emptyPage, onto, held, PutIn}
+use Rattle.page.specs.Page.{emptyPage, Adds, held, PutIn}
 use Rattle.page.proofs.Onto.{holding}
 
 module _ {Kind : List ℕ → Type 0} {before after : List ℕ} {r : Written} where
-  pub put-in : (text : List ℕ) {p : Page} → Kind text → length text ≤ room → p ≡ onto emptyPage text
-      → (writtenIs r ≡ writing 0 (held p) before 0) × (after ≡ bufferAfter 0 (held p) before 0) → PutIn Kind before after r
-  put-in text {p} k h q d =
-      let g : held p ≡ text = holding text p h q in
-      record { text = text; kind = k; short = h; answer = rw g at (d .0); buffer = rw g at (d .1) }
+  pub put-in : {p : Page} → Adds Kind emptyPage p → (writtenIs r ≡ writing 0 (held p) before 0) × (after ≡ bufferAfter 0 (held p) before 0) → PutIn Kind before after r
+  put-in {p} a d =
+      let g : held p ≡ a .text = holding (a .text) p (a .short) (a .page) in
+      record { text = a .text; kind = a .kind; short = a .short; answer = rw g at (d .0); buffer = rw g at (d .1) }
 
   pub within : {at : ℕ} → PutIn Kind before after r → r ≡ Next at → at ≤ length after
   within {at} l q = by-test (hasRoom (l .text) before 0) fits (λ y. absurd (short y))

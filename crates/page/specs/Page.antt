@@ -26,6 +26,13 @@ unfoldable pub onto : Page → List ℕ → Page
 onto p [] = p
 onto p (b ∷ bs) = onto (with p b) bs
 
+-- a page after a text of this kind was put onto one; the text is no longer than an empty page holds
+pub record Adds (Kind : List ℕ → Type 0) (before after : Page) : Type 0 where
+  pub text : List ℕ
+  pub kind : Kind text
+  pub short : length text ≤ room
+  pub page : after ≡ onto before text
+
 -- the text that a page holds: its first `size` bytes, or all where `size` is past its end
 abbrev pub held : Page → List ℕ
 held p = take (p .size) (p .bytes)

@@ -11,20 +11,33 @@ use Rattle.listing_text.proofs.listing.Statement.{statement}
 use Rattle.listing_text.proofs.listing.Tie as tie
 
 returns : tie.Need-returns
-returns c = (tooLongLine, long-pattern (c .before .if1 .taken), omega arith, rw (c .too-long .ensures, c .before .before .empty .ensures))
+returns c =
+    record {
+      text = tooLongLine;
+      kind = long-pattern (c .before .if1 .taken);
+      short = omega arith;
+      page = rw (c .too-long .ensures, c .before .before .empty .ensures);
+    }
 
 returns-2 : tie.Need-returns-2
-returns-2 c = (tooLongLine, long-log (c .before .if2 .taken), omega arith, rw (c .too-long2 .ensures, c .before .before .before .empty .ensures))
+returns-2 c =
+    record {
+      text = tooLongLine;
+      kind = long-log (c .before .if2 .taken);
+      short = omega arith;
+      page = rw (c .too-long2 .ensures, c .before .before .before .empty .ensures);
+    }
 
 returns-3 : tie.Need-returns-3
 returns-3 c =
     let a = c .before .before .before .before .before .before .before .args in
-    let r = c .before .run .result in (
-      textOf (a .log .now) (r .outcome) (r .numbers),
-      judged (c .before .before .before .if1 .left) (c .before .before .if2 .left) (listed (a .pattern .now) (a .log .now) r (c .before .run .ensures)),
-      fits-a-page (a .log .now) (r .outcome) (r .numbers) (let n : length (r .numbers) ≡ 5 = search needs in omega arith),
-      rw (c .verdict .ensures, c .before .before .before .before .empty .ensures),
-    )
+    let r = c .before .run .result in
+    record {
+      text = textOf (a .log .now) (r .outcome) (r .numbers);
+      kind = judged (c .before .before .before .if1 .left) (c .before .before .if2 .left) (listed (a .pattern .now) (a .log .now) r (c .before .run .ensures));
+      short = fits-a-page (a .log .now) (r .outcome) (r .numbers) (let n : length (r .numbers) ≡ 5 = search needs in omega arith);
+      page = rw (c .verdict .ensures, c .before .before .before .before .empty .ensures);
+    }
 
 pub listing-spec : {M : Type 1} → statement M
 listing-spec =

@@ -8,10 +8,13 @@ use Rattle.order_text.proofs.line.Tie as tie
 returns : tie.Need-returns
 returns c =
     let t = c .asked-line .ensures in
-    rw (c .before .before .pair .given .1) (t .0, t .1, t .2, rw (sym (c .before .before .before .before .empty .ensures)) (t .3))
+    rw (c .before .before .pair .given .1)
+    (record { text = t .text; kind = t .kind; short = t .short; page = rw (sym (c .before .before .before .before .empty .ensures)) (t .page) })
 
 returns-2 : tie.Need-returns-2
-returns-2 c = rw (c .before .before .enum-told .given .1) (usageLine, usage, omega arith, rw (c .text .ensures, c .before .before .before .before .empty .ensures))
+returns-2 c =
+    rw (c .before .before .enum-told .given .1)
+    (record { text = usageLine; kind = usage; short = omega arith; page = rw (c .text .ensures, c .before .before .before .before .empty .ensures) })
 
 pub line-spec : {M : Type 1} → statement M
 line-spec =
