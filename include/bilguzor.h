@@ -30,12 +30,13 @@
  *    8  a byte follows the closing 00; the offset of that byte
  *    9  event: 65535 events are already taken
  *   10  event: the acting thread is already joined
- *   11  event: acquire of a held lock
+ *   11  event: acquire of a lock that another thread holds
+ *   17  event: acquire by a holder who already holds the lock 255 deep
  *   12  event: release by a thread that does not hold the lock
  *   13  event: fork of a thread that acted or was named by a fork or join
  *   14  event: join of a joined thread
  *
- * 9 to 14 are looked for at each event, before the next command is looked at: an event that breaks a rule is refused whatever follows it.
+ * 9 to 14 and 17 are looked for at each event, before the next command is looked at: an event that breaks a rule is refused whatever follows it.
  *
  *   15  replay: the buffer has fewer bytes than the log, match or none; looked for after the whole log has passed, and the offset is 0
  *   16  order query: an event number of 0 or above the number of events; the offset is 0
@@ -51,14 +52,14 @@ extern "C" {
 #endif
 
 /* Raised whenever an answer or the layout of a session changes; bilguzor_version gives that of the library that is linked. */
-#define BILGUZOR_VERSION 4
+#define BILGUZOR_VERSION 5
 
 #define BILGUZOR_SLOTS 5
 
 /* How many numbers each part of a session has. */
 #define BILGUZOR_CLOCKS_LENGTH 704
 #define BILGUZOR_TABLE_LENGTH 512
-#define BILGUZOR_STATE_LENGTH 24
+#define BILGUZOR_STATE_LENGTH 40
 
 /* The byte of an event, as bilguzor_session_take takes it. */
 enum bilguzor_operation {
@@ -113,7 +114,7 @@ typedef struct bilguzor_answer {
     size_t offset; /* 0, also for a refusal */
 } bilguzor_answer;
 
-/* A session: 2484 bytes, none of them padding, which may be copied. It comes from bilguzor_open alone, and only bilguzor_session_take (or
+/* A session: 2500 bytes, none of them padding, which may be copied. It comes from bilguzor_open alone, and only bilguzor_session_take (or
  * bilguzor_take) changes it. */
 typedef struct bilguzor_session {
     uint32_t slots[BILGUZOR_SLOTS]; /* for each slot its byte, 256 times its thread and 65536 times its object, added up */
@@ -122,10 +123,10 @@ typedef struct bilguzor_session {
     uint16_t table[BILGUZOR_TABLE_LENGTH]; /* the best partial match of every set of slots */
     uint16_t taken; /* how many events are taken */
     uint16_t count; /* the count of the match, 0 without one */
-    uint8_t state[BILGUZOR_STATE_LENGTH]; /* of each thread whether it acted or is joined, and who holds each lock */
+    uint8_t state[BILGUZOR_STATE_LENGTH]; /* of each thread whether it acted or is joined, and who holds each lock, and how deep */
 } bilguzor_session;
 
-/* A session that was opened. 2512 bytes. */
+/* A session that was opened. 2528 bytes. */
 typedef struct bilguzor_opening {
     uint8_t number; /* 0: the pattern is accepted; else that of the refusal */
     size_t offset; /* of the refusal; 0 without one */
@@ -134,7 +135,7 @@ typedef struct bilguzor_opening {
 } bilguzor_opening;
 
 /* Judges a whole log by a pattern. A refused pattern answers BILGUZOR_PATTERN_REFUSED (1 to 8), and the log is not looked at; a refusal anywhere
- * in the log answers BILGUZOR_LOG_REFUSED (3 to 14), also after a match. */
+ * in the log answers BILGUZOR_LOG_REFUSED (3 to 14, or 17), also after a match. */
 bilguzor_judgement bilguzor_run(const uint8_t *pattern, size_t pattern_size, const uint8_t *log, size_t log_size);
 
 /* Judges a whole log by a pattern, as bilguzor_run does. With a match it writes at the start of the buffer a log that shows it: the same events,
@@ -150,7 +151,7 @@ bilguzor_replayed bilguzor_replay(
 
 /* How event number `first` of the log, counted from 1, stands to event number `second`: BILGUZOR_SAME where the numbers are equal; BILGUZOR_BEFORE
  * where a chain of events rising in the log, each dependent on the next, leads from the first to the second; BILGUZOR_AFTER where one leads from the
- * second to the first; else BILGUZOR_FREE. A refused log answers BILGUZOR_LOG_REFUSED (3 to 14); a number that no event of the log has then
+ * second to the first; else BILGUZOR_FREE. A refused log answers BILGUZOR_LOG_REFUSED (3 to 14, or 17); a number that no event of the log has then
  * BILGUZOR_QUERY_REFUSED (16). Up to version 3 it answered BILGUZOR_YES for same and before, BILGUZOR_NO for after and free. */
 bilguzor_ordering bilguzor_order(const uint8_t *log, size_t log_size, size_t first, size_t second);
 
@@ -159,7 +160,7 @@ bilguzor_opening bilguzor_open(const uint8_t *pattern, size_t pattern_size);
 
 /* Hands one event to the session. `operation` is the byte of the event (enum bilguzor_operation), `object` its variable, lock, child or mark;
  * `height` counts for a write alone. Every number may be given: an operation other than 1 to 7 is refused with 3, then a thread above 7 with 5, an
- * object above its limit with 6, and so on to 14. A refused event leaves the session as it was. */
+ * object above its limit with 6, and so on. A refused event leaves the session as it was. */
 static inline bilguzor_answer bilguzor_session_take(
     bilguzor_session *session, uint32_t thread, uint32_t operation, uint32_t object, int32_t height);
 
@@ -205,7 +206,7 @@ BILGUZOR_ASSERT_SIZE(bilguzor_judgement, 32);
 BILGUZOR_ASSERT_SIZE(bilguzor_replayed, 40);
 BILGUZOR_ASSERT_SIZE(bilguzor_ordering, 16);
 BILGUZOR_ASSERT_SIZE(bilguzor_answer, 16);
-BILGUZOR_ASSERT_SIZE(bilguzor_session, 2484);
-BILGUZOR_ASSERT_SIZE(bilguzor_opening, 2512);
+BILGUZOR_ASSERT_SIZE(bilguzor_session, 2500);
+BILGUZOR_ASSERT_SIZE(bilguzor_opening, 2528);
 
 #endif

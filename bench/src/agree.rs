@@ -12,13 +12,14 @@ const MIDDLE: usize = 3000;
 const LONG: usize = 300;
 const DAMAGED: usize = 16000;
 const PATTERNS: usize = 8000;
+const DEEP: usize = 400;
 
 #[derive(Default)]
 struct Totals {
     inputs: usize,
     matches: usize,
     nones: usize,
-    refused: [usize; 16],
+    refused: [usize; 18],
     handed: usize,
     verdicts: usize,
     queries: usize,
@@ -378,6 +379,24 @@ fn damaged(totals: &mut Totals, steps: &mut Steps) {
     }
 }
 
+/// A lock taken by one thread about as often as it can be held, then released about as often, with events between that may break a rule.
+fn deep(totals: &mut Totals, steps: &mut Steps) {
+    for _ in 0..DEEP {
+        let (thread, object) = (steps.below(3) as u8, steps.below(2) as u16);
+        let mut list = Vec::new();
+        for op in [3, 4] {
+            let one = Event { label: Label { op, thread, object }, height: 0 };
+            list.extend(vec![one; 252 + steps.below(5) as usize]);
+            for _ in 0..steps.below(3) {
+                list.push(event(steps, 3));
+            }
+        }
+        let pattern = pattern_for(steps, &list);
+        totals.hold(&pattern, &bytes_of(&list, true));
+        totals.hand(&pattern, &list);
+    }
+}
+
 /// Patterns with bytes spoilt, with no slot or too many.
 fn patterns(totals: &mut Totals, steps: &mut Steps) {
     for n in 0..PATTERNS {
@@ -429,10 +448,11 @@ pub fn all() {
     longer(&mut totals, &mut steps, MIDDLE, 9, 200);
     longer(&mut totals, &mut steps, LONG, 201, 3000);
     damaged(&mut totals, &mut steps);
+    deep(&mut totals, &mut steps);
     patterns(&mut totals, &mut steps);
     whole(&mut totals);
     let Totals { inputs, matches, nones, refused, handed, verdicts, queries, replays } = totals;
-    let numbers: Vec<String> = (1..15).map(|k| format!("{k}: {}", refused[k])).collect();
+    let numbers: Vec<String> = (1..15).chain([17]).map(|k| format!("{k}: {}", refused[k])).collect();
     println!("Agreement: {inputs} inputs, (a) to (e) each as the independent implementation says: {matches} match, {nones} none,");
     println!("{} refused (by number, {}). (a) and (e) name the first list each time.", refused.iter().sum::<usize>(), numbers.join(", "));
     println!("Sessions: {handed} events handed over, {verdicts} verdicts looked at; {queries} order queries. {replays} replays, byte by byte.\n");

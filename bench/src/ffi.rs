@@ -39,7 +39,7 @@ pub struct Session {
     table: [u16; 512],
     taken: u16,
     count: u16,
-    state: [u8; 24],
+    state: [u8; 40],
 }
 
 #[repr(C)]
@@ -50,7 +50,7 @@ struct Opening {
     session: Session,
 }
 
-const _: () = assert!(size_of::<Session>() == 2484 && size_of::<Opening>() == 2512);
+const _: () = assert!(size_of::<Session>() == 2500 && size_of::<Opening>() == 2528);
 
 extern "C" {
     fn bilguzor_run(pattern: *const u8, pattern_size: usize, log: *const u8, log_size: usize) -> Judgement;

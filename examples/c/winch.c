@@ -72,11 +72,24 @@ static void sessions(void)
     hand(&lone, 0, BILGUZOR_MARK, 0, 0);
 }
 
+/* Thread 0 takes lock 2 as deep as it can be held, and once more. */
+static void locks(void)
+{
+    static const uint8_t mark[] = { 7, 1, 11, 0, 0 };
+    bilguzor_session session = open_session("a mark", mark, sizeof mark);
+    for (int i = 0; i < 254; i++) {
+        bilguzor_session_take(&session, 0, BILGUZOR_ACQUIRE, 2, 0);
+    }
+    hand(&session, 0, BILGUZOR_ACQUIRE, 2, 0);
+    hand(&session, 0, BILGUZOR_ACQUIRE, 2, 0);
+    hand(&session, 1, BILGUZOR_ACQUIRE, 2, 0);
+}
+
 /* thread 1 mark 11; thread 0 writes variable 0, height -400 mm */
 static const uint8_t sign_log[] = { 7, 1, 11, 0, 2, 0, 0, 0x70, 0xFE, 0xFF, 0xFF, 0 };
 
-/* thread 0 acquires lock 2 twice */
-static const uint8_t held_log[] = { 3, 0, 2, 3, 0, 2, 0 };
+/* thread 0 acquires lock 2, thread 1 acquires it */
+static const uint8_t held_log[] = { 3, 0, 2, 3, 1, 2, 0 };
 
 /* thread 0 writes variable 0, thread 1 mark 11 */
 static const uint8_t sign[] = { 2, 0, 0, 7, 1, 11, 0, 0 };
@@ -122,6 +135,7 @@ int main(void)
 {
     printf("version %u%s\n", (unsigned)bilguzor_version(), bilguzor_version() == BILGUZOR_VERSION ? "" : ", which is not the header's");
     sessions();
+    locks();
     runs();
     replays();
     orders();

@@ -36,7 +36,7 @@ struct Session {
     table: [u16; 512],
     taken: u16,
     count: u16,
-    state: [u8; 24],
+    state: [u8; 40],
 }
 
 #[repr(C)]
@@ -52,8 +52,8 @@ const _: () = assert!(std::mem::size_of::<Judgement>() == 32);
 const _: () = assert!(std::mem::size_of::<Replayed>() == 40);
 const _: () = assert!(std::mem::size_of::<Ordering>() == 16);
 const _: () = assert!(std::mem::size_of::<Answer>() == 16);
-const _: () = assert!(std::mem::size_of::<Session>() == 2484);
-const _: () = assert!(std::mem::size_of::<Opening>() == 2512);
+const _: () = assert!(std::mem::size_of::<Session>() == 2500);
+const _: () = assert!(std::mem::size_of::<Opening>() == 2528);
 
 extern "C" {
     fn bilguzor_run(pattern: *const u8, pattern_size: usize, log: *const u8, log_size: usize) -> Judgement;
@@ -74,7 +74,7 @@ extern "C" {
         table: &mut [u16; 512],
         taken: &mut u16,
         count: &mut u16,
-        state: &mut [u8; 24],
+        state: &mut [u8; 40],
         thread: u32,
         operation: u32,
         object: u32,
@@ -84,7 +84,7 @@ extern "C" {
     fn bilguzor_version() -> u32;
 }
 
-const VERSION: u32 = 4;
+const VERSION: u32 = 5;
 
 const NO: u8 = 0;
 const YES: u8 = 1;
@@ -96,6 +96,7 @@ const AFTER: u8 = 7;
 const FREE: u8 = 8;
 
 const WRITE: u32 = 2;
+const ACQUIRE: u32 = 3;
 const RELEASE: u32 = 4;
 const MARK: u32 = 7;
 
@@ -205,11 +206,22 @@ fn sessions() {
     hand(&mut lone, 0, MARK, 0, 0);
 }
 
+// Thread 0 takes lock 2 as deep as it can be held, and once more.
+fn locks() {
+    let mut session = open_session("a mark", &[7, 1, 11, 0, 0]);
+    for _ in 0..254 {
+        session.take(0, ACQUIRE, 2, 0);
+    }
+    hand(&mut session, 0, ACQUIRE, 2, 0);
+    hand(&mut session, 0, ACQUIRE, 2, 0);
+    hand(&mut session, 1, ACQUIRE, 2, 0);
+}
+
 // thread 1 mark 11; thread 0 writes variable 0, height -400 mm
 const SIGN_LOG: [u8; 12] = [7, 1, 11, 0, 2, 0, 0, 0x70, 0xFE, 0xFF, 0xFF, 0];
 
-// thread 0 acquires lock 2 twice
-const HELD_LOG: [u8; 7] = [3, 0, 2, 3, 0, 2, 0];
+// thread 0 acquires lock 2, thread 1 acquires it
+const HELD_LOG: [u8; 7] = [3, 0, 2, 3, 1, 2, 0];
 
 // thread 0 writes variable 0, thread 1 mark 11
 const SIGN: [u8; 8] = [2, 0, 0, 7, 1, 11, 0, 0];
@@ -250,6 +262,7 @@ fn main() {
     let version = unsafe { bilguzor_version() };
     println!("version {version}{}", if version == VERSION { "" } else { ", which is not the header's" });
     sessions();
+    locks();
     runs();
     replays();
     orders();

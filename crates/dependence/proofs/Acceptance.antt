@@ -1,4 +1,4 @@
--- What swaps make of an accepted list is accepted. The numbers 10 to 14 of an event do not change when one that it is independent
+-- What swaps make of an accepted list is accepted. The numbers of an event behind 9 do not change when one that it is independent
 -- of is put before it or taken away; lists swapped are as long; and histories swapped answer alike to all that follow.
 -- Assumes nothing.
 use Prim.Native.Nat.{ℕ, suc, _<_}
@@ -103,7 +103,7 @@ independent a b i =
     let nb = sym (both-touched (b .operation) .1) in
     record { locks = rw (la, lb) (q .1); acting = rw na (s .0); naming = rw (na, nb) (s .1); acted = rw nb (u .0) }
 
--- ---- the numbers 10 to 14
+-- ---- the numbers behind 9
 
 -- the first of them whose condition the event meets; 0 where none
 abbrev ruleNumber : List Event → Event → ℕ
@@ -126,7 +126,7 @@ put-before a b past i =
     by-effect (Joins c) l n m = rw (not-joined c (effectOf a) n)
     by-effect Nothing l n m = refl
 
--- an event taken after g is taken after h, where there is room and the numbers 10 to 14 are given alike
+-- an event taken after g is taken after h, where there is room and the numbers behind 9 are given alike
 taken-after : (g h : List Event) (e : Event) → ruleNumber g e ≡ ruleNumber h e → length h < events → refusalAfter g e ≡ 0
     → refusalAfter h e ≡ 0
 unfolding refusalUnder

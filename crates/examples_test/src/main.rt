@@ -71,7 +71,7 @@ fn ordered() {
     asked(b"panel", 2, 2, b"same\n");
     asked(b"panel", 1, 3, b"free\n");
     asked(b"panel", 1, 4, b"refused 16 at 0\n");
-    asked(b"held_twice", 0, 9, b"refused 11 at 3\n");
+    asked(b"held_by_another", 0, 9, b"refused 11 at 3\n");
     asked(b"missing_log", 1, 1, b"refused 4 at 0\n");
     asked(b"at_the_limit", 1, 1, b"same\n");
     asked(b"past_the_limit", 1, 1, b"too long\n");

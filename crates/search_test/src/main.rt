@@ -3,6 +3,7 @@ mod compare;
 mod first;
 mod grouped;
 mod known;
+mod locks;
 mod orders;
 mod pairs;
 mod patterns;

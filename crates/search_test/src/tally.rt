@@ -1,11 +1,12 @@
 // What was seen: kinds of logs and patterns, matches and disagreements. The file stdin has the words for each count, a line each.
+use crate::locks;
 use crate::patterns;
 use crate::truth;
 use crate::truth::Truth;
 use log::LogRead;
 use plain::Leading;
 
-pub const COUNTS: usize = 47;
+pub const COUNTS: usize = 50;
 
 // The places of the counts. Those of kinds are told by the byte of the operation, those of patterns by the number of slots.
 pub const KNOWN: usize = 0;
@@ -44,6 +45,8 @@ pub const PAIRS: usize = 31;
 
 pub const REPLAYS: usize = 38;
 
+const AGAIN: usize = 47;
+
 // So many more at a place.
 pub(crate) fn add(counts: &mut [u64; COUNTS], i: usize, n: u64) {
     if i < COUNTS {
@@ -66,6 +69,7 @@ pub(crate) fn log(counts: &mut [u64; COUNTS], read: LogRead, t: Truth) {
     if accepted {
         case(counts, t);
         result(counts, t);
+        nested(counts, t);
     }
 }
 
@@ -94,6 +98,15 @@ fn result(counts: &mut [u64; COUNTS], t: Truth) {
     add_if(counts, SWAPPED, present && !t.unswapped());
     add(counts, ORDERS, t.orders);
     counts[MOST_ORDERS] = truth::larger(counts[MOST_ORDERS], t.most);
+}
+
+// Logs in which a lock is taken again by its holder, and what is found in them.
+fn nested(counts: &mut [u64; COUNTS], t: Truth) {
+    let again = locks::taken_again(t.leading);
+    let present = again && t.present();
+    add_if(counts, AGAIN, again);
+    add_if(counts, AGAIN + 1, present);
+    add_if(counts, AGAIN + 2, present && !t.unswapped());
 }
 
 // Each count after its words.

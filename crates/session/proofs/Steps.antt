@@ -1,22 +1,19 @@
 -- What the code leaves in a session is what the model says.
 use Prim.Native.Nat.{ℕ, _+_, _-_, _<_}
 use native.Mathlib.Omega.{arith}
-use native.Mathlib.Decide.{decLt}
 use mathlib.Core.Path.{_≡_, sym, ap, _∙_}
 use mathlib.Core.Bool.{Bool, cond}
-use mathlib.Core.List.{List, [], reverse}
+use mathlib.Core.List.{List, reverse}
 use lib.Dec.{eqb, leb}
-use lib.ListN.{length, getD, replicate, getD-replicate, length-replicate}
-use lib.Seq.{ext-getD}
 use borrow.Author.Tests.{eq-eqb, ne-eqb, leb-true, leb-false}
 use Rattle.event.specs.declared.Event.{Event}
 use Rattle.event.specs.declared.Slot.{Slot}
-use Rattle.event.specs.Limits.{threads, locks, events}
+use Rattle.event.specs.Limits.{events}
 use Rattle.event.specs.Slots.{slotOf, fitting, threadsOf}
 use Rattle.event.proofs.Tests.{by-test}
 use Rattle.event.proofs.InRange.{from-range}
-use Rattle.rules.specs.Accepted.{refusalAfter, some, lockOf}
-use Rattle.rules.specs.State.{StateOf, refusalBy, stateAfter}
+use Rattle.rules.specs.Accepted.{refusalAfter}
+use Rattle.rules.specs.State.{refusalBy, stateAfter}
 use Rattle.rules.proofs.StateLaws.{taken-in-range, too-many, after-refused}
 use Rattle.clock.specs.declared.Stamp.{Stamp}
 use Rattle.clock.specs.Clocks.{stampBy, clocksAfter}
@@ -29,23 +26,6 @@ use Rattle.session.specs.Answers.{refusal, answerIs, verdictIs}
 use Rattle.session.specs.Model.{Kept, keptOf, sessionOn, tableAfter, keptAdvanced, keptAfter, answerBy, handed, verdictOf}
 use Rattle.session.specs.Meaning.{takenBy, Describes, VerdictOf}
 use Rattle.session.proofs.Described.{handed-described, verdict-described}
-
--- the rules' state of no events is all zeros
-pub zeros : (state : List ℕ) → StateOf [] state → state ≡ replicate (threads + locks) 0
-unfolding some lockOf
-zeros state h = ext-getD 0 state (replicate (threads + locks) 0) (h .size ∙ sym (length-replicate {A = ℕ} (threads + locks) 0)) entry
-  where
-    zero-at : (i : ℕ) → i < threads + locks → _≡_ {A = ℕ} (getD (replicate (threads + locks) 0) i 0) 0
-    zero-at i l = getD-replicate {A = ℕ} (threads + locks) i 0 0 l
-
-    go : (i : ℕ) → i < threads + locks → Dec (i < threads) → getD state i 0 ≡ 0
-    go i l (yes u) = h .task i u
-    go i l (no d) =
-        let k : i ≡ threads + (i - threads) = omega arith in
-        rw k (h .lock (i - threads) (omega arith))
-
-    entry : (i : ℕ) → i < length state → getD state i 0 ≡ getD (replicate (threads + locks) 0) i 0
-    entry i l = let m : i < threads + locks = let z : length state ≡ threads + locks = h .size in omega arith in go i m (decLt i threads) ∙ sym (zero-at i m)
 
 -- an event that is taken is within the limit of events
 pub room : (state : List ℕ) (n : ℕ) (e : Event) → refusalBy state n e ≡ 0 → n < events

@@ -6,9 +6,8 @@ use lib.Dec.{eqb}
 use lib.ListN.{replicate}
 use Rattle.event.specs.declared.Event.{Event}
 use Rattle.event.specs.declared.Slot.{Slot}
-use Rattle.event.specs.Limits.{threads, locks}
 use Rattle.event.specs.Slots.{fitting, threadsOf}
-use Rattle.rules.specs.State.{refusalBy, stateAfter}
+use Rattle.rules.specs.State.{stateSize, refusalBy, stateAfter}
 use Rattle.log.specs.declared.Pattern.{Pattern}
 use Rattle.log.specs.Whole.{Whole, accepted, refused, blank}
 use Rattle.clock.specs.Rows.{size as clockSize}
@@ -49,7 +48,7 @@ sessionOn p k = record { pattern = p; state = k .state; clocks = k .clocks; tabl
 
 -- "with no event taken"
 abbrev pub freshKept : Kept
-freshKept = record { state = replicate (threads + locks) 0; clocks = replicate clockSize 0; table = freshTable; taken = 0; count = 0 }
+freshKept = record { state = replicate stateSize 0; clocks = replicate clockSize 0; table = freshTable; taken = 0; count = 0 }
 
 abbrev pub freshOn : Pattern → Session
 freshOn p = sessionOn p freshKept

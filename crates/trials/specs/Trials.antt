@@ -122,8 +122,8 @@ trials =
     ∷ judged (closed (read T1 3 ∷ read T0 3 ∷ [])) (closed (read T0 3 ∷ read T1 3 ∷ [])) (match 2 (2 ∷ 1 ∷ []))
     -- "With T0's a write in both log and pattern: none."
     ∷ judged (closed (read T1 3 ∷ write T0 3 ∷ [])) (closed ((write T0 3 ++ height-0) ∷ read T1 3 ∷ [])) none
-    -- 6. "T0 acquires lock 2 twice: 11 at offset 3."
-    ∷ reads (closed (acquire T0 2 ∷ acquire T0 2 ∷ [])) (Passing.refused 11 3)
+    -- 6. "T0 acquires lock 2 twice": "Trial 6 is now accepted." (Note 3)
+    ∷ reads (closed (acquire T0 2 ∷ acquire T0 2 ∷ [])) (passed 2)
     -- 7. "T0 forks 1, T1 mark 5; pattern T1 mark 5, T0 fork 1: none."
     ∷ judged (closed (mark T1 5 ∷ fork T0 1 ∷ [])) (closed (fork T0 1 ∷ mark T1 5 ∷ [])) none
     -- 8. "Thread 7 is taken, 8 gives 5."

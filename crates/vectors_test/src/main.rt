@@ -41,6 +41,7 @@ fn line(line: &[u8], space: &mut [u8], head: usize, state: &mut [u8; rules::STAT
         0 => head,
         b'#' => head,
         b'h' => new_head(line, space),
+        b'l' => longer_head(line, space, head),
         b'n' => {
             admission::renew(state);
             head
@@ -62,6 +63,18 @@ fn new_head(line: &[u8], space: &mut [u8]) -> usize {
     let bar = console::find(line, colon, b'|');
     let n = spelled::put_bytes(line, colon, space, 0);
     buffers::put_marks(space, n, spelled::decimal(line, bar))
+}
+
+// longer: BYTES | COUNT. The head goes on with these bytes, so many times.
+fn longer_head(line: &[u8], space: &mut [u8], head: usize) -> usize {
+    let colon = console::find(line, 0, b':');
+    let bar = console::find(line, colon, b'|');
+    let count = spelled::decimal(line, bar);
+    let mut end = head;
+    for n in 0..count {
+        end = spelled::put_bytes(line, colon, space, end);
+    }
+    end
 }
 
 // admit TITLE: EVENT | TAKEN. Hands an event to the rules, the number of those taken before it given.

@@ -1,4 +1,4 @@
-use Rattle.session.proofs.Steps.{zeros}
+use Rattle.rules.proofs.StateLaws.{zeros}
 use borrow.Author.Needs.{needs}
 use Rattle.session.proofs.fresh.Statement.{statement}
 use Rattle.session.proofs.fresh.Tie as tie

@@ -5,10 +5,10 @@ use Rattle.search_test.proofs.tally.print_by.Statement.{statement}
 use Rattle.search_test.proofs.tally.print_by.Tie as tie
 
 abbrev Inv-loop : tie.InvT-loop
-Inv-loop words counts at₀ i₀ at i = i ≤ 47
+Inv-loop words counts at₀ i₀ at i = i ≤ 50
 
 abbrev μ-loop : tie.MeasureT-loop
-μ-loop words counts at₀ i₀ at i = 47 - i
+μ-loop words counts at₀ i₀ at i = 50 - i
 
 pub print-by-spec : {M : Type 1} → statement M
 print-by-spec =
