@@ -16,6 +16,7 @@
  *   07    mark      thread 1, mark 2
  *
  * Threads and children run 0 to 7, variables 0 to 31, locks 0 to 15, marks 0 to 65535. A pattern has 1 to 5 commands, a log 0 to 65535.
+ * Locks count: the holder may acquire again, and the lock is free once it has been released as often.
  *
  * Whatever is refused gets a number, and the offset of the first byte of the command concerned, in the pattern or in the log. The numbers stand
  * in the order in which they are looked for; 0 is no refusal:

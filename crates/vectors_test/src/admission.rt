@@ -6,6 +6,13 @@ pub(crate) fn renew(state: &mut [u8; rules::STATE]) {
     *state = rules::fresh();
 }
 
+// Hands over the event so many times, and says nothing.
+pub(crate) fn repeat(state: &mut [u8; rules::STATE], e: Event, times: usize) {
+    for n in 0..times {
+        rules::admit(state, n, e);
+    }
+}
+
 // Hands over one event, the number of events taken before it given.
 pub(crate) fn admit(state: &mut [u8; rules::STATE], taken: usize, e: Event) {
     let before = *state;

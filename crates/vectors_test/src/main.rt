@@ -77,15 +77,18 @@ fn longer_head(line: &[u8], space: &mut [u8], head: usize) -> usize {
     end
 }
 
-// admit TITLE: EVENT | TAKEN. Hands an event to the rules, the number of those taken before it given.
+// admit TITLE: EVENT | TAKEN | TIMES. Hands an event to the rules, the number of those taken before it given; so many times before, unasked.
 fn admit(line: &[u8], state: &mut [u8; rules::STATE]) {
     let mut bytes = [0u8; 16];
     let colon = console::find(line, 0, b':');
     let bar = console::find(line, colon, b'|');
+    let last = console::find(line, bar + 1, b'|');
+    let times = spelled::decimal(line, last);
     let from = spelled::title_from(line, colon);
     let n = spelled::put_bytes(line, colon, &mut bytes, 0);
     let e = commands::of(&bytes[..n], true);
     console::text(&line[from..colon]);
+    admission::repeat(state, e, times);
     admission::admit(state, spelled::decimal(line, bar), e);
 }
 
