@@ -1,4 +1,4 @@
-// What the proved run is to reach beside the others, and how far it is from each goal at worst.
+// What the proved run and the proved session are to reach beside the others, and how far they are from each goal at worst.
 use crate::contest;
 use crate::load::Input;
 use crate::time::Row;
@@ -46,7 +46,7 @@ const C: usize = 2;
 const D: usize = 3;
 const E: usize = 4;
 
-const GOALS: [Goal; 9] = [
+const GOALS: [Goal; 15] = [
     Goal { words: "(a) below (b) on every input", load: "", slots: 0, ratio: [B, A], limit: Above(1.0) },
     Goal { words: "(a) at least 5 times as fast as (b), dense, 5 slots", load: "dense", slots: 5, ratio: [B, A], limit: AtLeast(5.0) },
     Goal { words: "(a) at least 5 times as fast as (b), staged, 5 slots", load: "staged", slots: 5, ratio: [B, A], limit: AtLeast(5.0) },
@@ -56,6 +56,12 @@ const GOALS: [Goal; 9] = [
     Goal { words: "(a) at most 2.5 times (c), staged", load: "staged", slots: 0, ratio: [A, C], limit: AtMost(2.5) },
     Goal { words: "(a) at most 1.25 times (e) on every input", load: "", slots: 0, ratio: [A, E], limit: AtMost(1.25) },
     Goal { words: "(d) at most 8 times (a), Note 11", load: "Note 11", slots: 0, ratio: [D, A], limit: AtMost(8.0) },
+    Goal { words: "(d) at most 2 times (b), Note 11, 1 slot", load: "Note 11", slots: 1, ratio: [D, B], limit: AtMost(2.0) },
+    Goal { words: "(d) at most 2 times (b), Note 11, 3 slots", load: "Note 11", slots: 3, ratio: [D, B], limit: AtMost(2.0) },
+    Goal { words: "(d) at most 1.5 times (b), Note 11, 5 slots", load: "Note 11", slots: 5, ratio: [D, B], limit: AtMost(1.5) },
+    Goal { words: "(d) at most 4 times (c), no fit", load: "no fit", slots: 0, ratio: [D, C], limit: AtMost(4.0) },
+    Goal { words: "(d) below (b), dense, 5 slots", load: "dense", slots: 5, ratio: [B, D], limit: Above(1.0) },
+    Goal { words: "(d) below (b), staged, 5 slots", load: "staged", slots: 5, ratio: [B, D], limit: Above(1.0) },
 ];
 
 impl Goal {

@@ -2,7 +2,7 @@
 use Prim.Native.Nat.{ℕ, _+_, _*_}
 use native.Mathlib.Omega.{arith}
 use mathlib.Core.Path.{_≡_, refl, sym, ap, _∙_}
-use mathlib.Core.Bool.{Bool, false}
+use mathlib.Core.Bool.{false}
 use mathlib.Core.List.{List, [], reverse}
 use lib.Dec.{eqb}
 use lib.IntN.{ℤ}
@@ -12,7 +12,6 @@ use Rattle.event.specs.declared.Slot.{Slot}
 use Rattle.event.specs.Slots.{slotOf, fitting, threadsOf}
 use Rattle.event.specs.Keys.{slotNumber, slotNumbers}
 use Rattle.event.proofs.Tests.{by-test}
-use Rattle.rules.specs.Accepted.{refusalAfter}
 use Rattle.rules.specs.State.{refusalBy}
 use Rattle.rules.proofs.StateLaws.{taken-in-range}
 use Rattle.log.specs.Whole.{InLimits, Passing, passed, refused, patternAnswerIs, patternOf, readPattern}
@@ -22,11 +21,13 @@ use Rattle.session.specs.declared.Opened.{Opened}
 use Rattle.session.specs.declared.Found.{Found}
 use Rattle.session.specs.declared.Found.the-variants.{Match, None}
 use Rattle.run.specs.declared.Outcome as run
-use Rattle.session.specs.Answers.{refusal, answerIs, foundIs, nothing}
+use Rattle.session.specs.Answers.{refusal, answerIs, foundIs, verdictIs, nothing}
 use Rattle.run.specs.Answers.{outcomeIs}
-use Rattle.session.specs.Model.{slotsUsed, freshOn, Kept, keptOf, sessionOn, keptAfter, answerBy, handed, foundAt}
-use Rattle.session.specs.Meaning.{takenBy, Describes, VerdictOf, OpenedOn}
-use Rattle.session.proofs.Described.{fresh-described, used-good, handed-described, verdict-described}
+use Rattle.session.specs.Model.{slotsUsed, freshOn, Kept, keptOf, sessionOn, keptAfter, handed, foundAt}
+use Rattle.session.specs.Meaning.{Describes, VerdictOf, OpenedOn}
+use Rattle.session.proofs.Described.{fresh-described, used-good, refusal-is, handed-described, verdict-described}
+use Rattle.session.specs.NoFit.{FitsNone}
+use Rattle.session.proofs.NoFit.{unmoved}
 use Rattle.table.specs.Table.{numbersIn}
 use Rattle.bilguzor.specs.declared.Answer.{Answer}
 use Rattle.bilguzor.specs.declared.Judgement.{Judgement}
@@ -34,7 +35,7 @@ use Rattle.bilguzor.specs.declared.Opening.{Opening}
 use Rattle.bilguzor.specs.declared.Parts.{Parts}
 use Rattle.bilguzor.specs.Numbers.{judgementOf, asOutcome}
 use Rattle.bilguzor.specs.Parts.{partsOf, keptIn, partsWith, actingIn, fittingIn}
-use Rattle.bilguzor.specs.Sessions.{InParts, openingFrom, openedParts, openingOf, Numbers, handedOver, noOperation, eventFrom, unfitBy, numberIn, partsAfter, refusalOf, takenWith, Takes, rulingIn}
+use Rattle.bilguzor.specs.Sessions.{InParts, openingFrom, openedParts, openingOf, Numbers, handedOver, noOperation, eventFrom, unfitBy, numberIn, partsAfter, refusalOf, takenWith, Takes, rulingIn, saidIn}
 use Rattle.bilguzor.proofs.Events.{operates, unfit-number, fit}
 use Rattle.bilguzor.proofs.SlotsIn.{places-within, threads-told, fits-told}
 
@@ -52,37 +53,47 @@ kept-alike s e g =
     rw (threads-told (s .pattern .slots) g, fits-told e (let t = r .thread in omega arith) (s .pattern .slots) g))
     (λ q. rw q)
 
-answered : (k : ℕ) → answerIs (answerBy k) .number ≡ k
-answered k = by-test (eqb k 0) (λ q. rw q (sym (eqb-true k 0 q))) (λ q. rw q)
-
 in-limits : (ss : List Slot) (es : List Event) (s : Session) → Describes ss es s → InLimits (s .pattern .slots)
 in-limits ss es s h = rw (ap (λ p. p .slots) (h .pattern)) (places-within ss (h .good))
 
+-- what the parts of a session become is what the session becomes
+as-session : (ss : List Slot) (es : List Event) (s : Session) → Describes ss es s → (n : Numbers) → noOperation (n .operation) ≡ false
+    → partsAfter (partsOf s) n ≡ partsOf (handed s (eventFrom n) .session)
+unfolding partsAfter handed
+as-session ss es s h n q = rw q (ap (λ k. partsOf (sessionOn (s .pattern) k)) (kept-alike s (eventFrom n) (in-limits ss es s h)))
+
+number-by-rules : (ss : List Slot) (es : List Event) (s : Session) → Describes ss es s → (n : Numbers) → numberIn (partsOf s) n ≡ refusalOf (reverse es) n
+unfolding numberIn refusalOf
+number-by-rules ss es s h n = rw (refusal-is ss es s h (eventFrom n))
+
 -- the parts stay those of a session, described by the pattern and the events taken
-of-session : (ss : List Slot) (es : List Event) (s : Session) → Describes ss es s → (n : Numbers)
-    → (numberIn (partsOf s) n ≡ refusalOf (reverse es) n) × InParts ss (takenWith es n) (partsAfter (partsOf s) n)
-unfolding numberIn refusalOf takenWith partsAfter handed
+of-session : (ss : List Slot) (es : List Event) (s : Session) → Describes ss es s → (n : Numbers) → InParts ss (takenWith es n) (partsAfter (partsOf s) n)
+unfolding takenWith partsAfter
 of-session ss es s h n =
     by-test (noOperation (n .operation))
-    (λ q. rw q (refl, record { session = s; is = refl; describes = h }))
-    (λ q. rw q (number, record { session = handed s e .session; is = parts; describes = there .1 }))
-  where
-    e : Event
-    e = eventFrom n
-
-    there : (answerIs (handed s e .answer) ≡ refusal (refusalAfter (reverse es) e) 0) × Describes ss (takenBy es e) (handed s e .session)
-    there = handed-described ss es s h e
-
-    number : refusalBy (s .state) (s .taken) e ≡ refusalAfter (reverse es) e
-    number = sym (answered (refusalBy (s .state) (s .taken) e)) ∙ ap (λ r. r .number) (there .0)
-
-    parts : partsWith (partsOf s) (keptAfter (actingIn (slotNumbers (s .pattern .slots))) (fittingIn (slotNumbers (s .pattern .slots)) (slotNumber (slotOf e))) (s .pattern .size) (keptOf s) e)
-        ≡ partsOf (handed s e .session)
-    parts = ap (λ k. partsOf (sessionOn (s .pattern) k)) (kept-alike s e (in-limits ss es s h))
+    (λ q. rw q (record { session = s; is = refl; describes = h }))
+    (λ q.
+    let parts = as-session ss es s h n q in
+    rw q (record { session = handed s (eventFrom n) .session; is = rw q at parts; describes = handed-described ss es s h (eventFrom n) .1 }))
 
 pub one-event : (ss : List Slot) (es : List Event) (p : Parts) → InParts ss es p → (n : Numbers)
     → (numberIn p n ≡ refusalOf (reverse es) n) × InParts ss (takenWith es n) (partsAfter p n)
-one-event ss es p h n = rw (h .is) (of-session ss es (h .session) (h .describes) n)
+one-event ss es p h n = rw (h .is) (number-by-rules ss es (h .session) (h .describes) n, of-session ss es (h .session) (h .describes) n)
+
+-- an event that is taken and fits no slot leaves what the parts say, and their table, as they were
+pub unmoved-parts : (ss : List Slot) (es : List Event) (p : Parts) → InParts ss es p → (n : Numbers) → numberIn p n ≡ 0 → FitsNone ss (eventFrom n)
+    → (saidIn (partsAfter p n) ≡ saidIn p) × (partsAfter p n .table ≡ p .table)
+unfolding numberIn handed
+unmoved-parts ss es p h n z none = rw (h .is) (go (h .session) (h .describes) (rw (h .is) at z))
+  where
+    go : (s : Session) → Describes ss es s → numberIn (partsOf s) n ≡ 0 → (saidIn (partsAfter (partsOf s) n) ≡ saidIn (partsOf s)) × (partsAfter (partsOf s) n .table ≡ s .table)
+    go s d z =
+        by-test (noOperation (n .operation))
+        (λ q. let three : 3 ≡ 0 = rw q at z in absurd (let f : ⊥ = omega arith in f))
+        (λ q.
+        let taken : answerIs (handed s (eventFrom n) .answer) ≡ refusal 0 0 = rw (rw q at z) in
+        let u = unmoved ss es s d (eventFrom n) none taken in
+        rw (as-session ss es s d n q) (ap verdictIs (u .verdict-stays), u .partial-matches-stay))
 
 -- ---- an event in numbers
 
@@ -114,15 +125,15 @@ module _ (p : Parts) (t b o : ℕ) (h : ℤ) where
   number-over : noOperation b ≡ false → slotNumber (slotOf (eventFrom over)) ≡ b + 256 * t + 65536 * o
   number-over q = let x = operates b o h q in rw (x .byte, x .object)
 
-  pub handed-on : (e : Event) → e ≡ eventFrom over → unfitBy t b o ≡ 0 → (acting : List ℕ) (fits : List Bool) → acting ≡ actingIn (p .slots)
-      → fits ≡ fittingIn (p .slots) (b + 256 * t + 65536 * o) → (k : ℕ) (after : Kept) → k ≡ refusalBy (p .state) (p .taken) e
-      → after ≡ keptAfter acting fits (p .size) (keptIn p) e → Takes p over (record { number = k; offset = 0 }) (partsWith p after)
+  pub handed-on : (e : Event) → e ≡ eventFrom over → unfitBy t b o ≡ 0 → (k : ℕ) (after : Kept) → k ≡ refusalBy (p .state) (p .taken) e
+      → after ≡ keptAfter (actingIn (p .slots)) (fittingIn (p .slots) (b + 256 * t + 65536 * o)) (p .size) (keptIn p) e
+      → Takes p over (record { number = k; offset = 0 }) (partsWith p after)
   unfolding numberIn partsAfter
-  handed-on e q z acting fits a f k after n s =
+  handed-on e q z k after n s =
       let event = fit t b o z .event in
       taking _ _
       (rw event (ap (λ (x : ℕ). record { number = x; offset = 0 }) (rw q at n)))
-      (rw (event, number-over event, sym a, sym f) (ap (partsWith p) (rw q at s)))
+      (rw (event, number-over event) (ap (partsWith p) (rw q at s)))
 
 -- ---- an opening
 

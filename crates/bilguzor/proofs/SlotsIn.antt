@@ -2,9 +2,10 @@
 use Prim.Native.Nat.{ℕ, zero, suc, _-_, _/_, _%_, _<_}
 use native.Mathlib.Omega.{arith}
 use mathlib.Core.Path.{_≡_, refl, sym, ap₂}
-use mathlib.Core.Bool.{Bool}
+use mathlib.Core.Bool.{Bool, false}
 use mathlib.Core.List.{List, [], _∷_, _++_}
-use lib.ListN.{length, replicate}
+use lib.ListN.{length, getD, replicate}
+use borrow.Author.Tests.{ne-eqb}
 use Rattle.event.specs.declared.Event.{Event}
 use Rattle.event.specs.declared.Slot.{Slot}
 use Rattle.event.specs.Limits.{slots}
@@ -44,3 +45,10 @@ fits-told e l [] no-slot = refl
 fits-told e l (s ∷ ss) (one-slot z g) =
     let t = in-range s z .thread in
     ap₂ (λ (x : Bool) (xs : List Bool). x ∷ xs) (sym (fits-by-number s e (omega arith) l)) (fits-told e l ss g)
+
+-- a slot with another number than that of the event's own is one that the event does not fit
+pub none-told : (slots : List ℕ) (n j : ℕ) → (getD slots j 0 ≡ n → ⊥) → getD (fittingIn slots n) j false ≡ false
+unfolding fittingIn
+none-told [] n j d = refl
+none-told (m ∷ slots) n zero d = ne-eqb m n d
+none-told (m ∷ slots) n (suc j) d = none-told slots n j d

@@ -1,4 +1,5 @@
--- Demand 3 for the exported functions: every list of events in numbers, every order reached from the events taken, and every run. What every replay shows.
+-- Demand 3 for the exported functions: every list of events in numbers, every order reached from the events taken, and every run. What an event that fits
+-- no slot leaves as it was, and what every replay shows.
 use Prim.Native.Nat.{ℕ, _≤_}
 use native.Mathlib.Omega.{arith}
 use mathlib.Core.Path.{_≡_, refl, sym, ap, ap₂, _∙_}
@@ -13,6 +14,7 @@ use Rattle.event.specs.declared.Operation.the-variants.{Read, Write, Acquire, R
 use Rattle.event.specs.declared.Event.{Event}
 use Rattle.event.specs.declared.Slot.{Slot}
 use Rattle.event.specs.Slots.{byteOf, objectOf, withoutHeight}
+use Rattle.event.proofs.Tests.{by-test}
 use Rattle.rules.specs.Accepted.{refusalAfter, takenAfter, AcceptedAfter, one-more, Accepted}
 use Rattle.command.specs.Bytes.{Bytes}
 use Rattle.command.specs.Reading.{operationOf}
@@ -24,15 +26,16 @@ use Rattle.dependence.proofs.Reached.{order-reached}
 use Rattle.log.specs.Whole.{logBytes, readPattern}
 use Rattle.log.proofs.LogRoundTrip.{log-read}
 use Rattle.session.specs.Model.{slotsUsed}
+use Rattle.session.specs.NoFit.{FitsNone}
 use Rattle.replay_log.specs.Replay.{ReplayOf, refused, too-short, none, shown}
 use Rattle.replay_log.proofs.Showing.{verdict-shows}
 use Rattle.bilguzor.specs.declared.Judgement.{Judgement}
 use Rattle.bilguzor.specs.declared.Parts.{Parts}
 use Rattle.bilguzor.specs.declared.Replayed.{Replayed}
 use Rattle.bilguzor.specs.Numbers.{kindOf, RunNumbers, ReplayNumbers}
-use Rattle.bilguzor.specs.Sessions.{InParts, openedParts, Numbers, noOperation, eventFrom, partsAfter, refusalOf, takenWith}
-use Rattle.bilguzor.specs.History.{partsAll, answersAll, takenAll, refusalsAll, heightIn, inNumbers, SameAnswer, EveryHistory, EveryRun, EveryReplay}
-use Rattle.bilguzor.proofs.Handing.{one-event, opened-in, said}
+use Rattle.bilguzor.specs.Sessions.{InParts, openedParts, Numbers, noOperation, eventFrom, numberIn, partsAfter, refusalOf, takenWith, saidIn}
+use Rattle.bilguzor.specs.History.{partsAll, answersAll, takenAll, refusalsAll, heightIn, inNumbers, SameAnswer, EveryHistory, EveryRun, EveryUnmoved, EveryReplay}
+use Rattle.bilguzor.proofs.Handing.{one-event, unmoved-parts, opened-in, said}
 
 -- ---- every list of events
 
@@ -69,12 +72,22 @@ an-operation (Mark m) = refl
 event-back : (e : Event) → eventFrom (inNumbers e) ≡ e
 event-back e = ap (λ op. record { thread = e .thread; operation = op }) (back (e .operation))
 
+-- numbers that are not refused are taken, at the end
+taken-with : (es : List Event) (n : Numbers) → refusalOf (reverse es) n ≡ 0 → takenWith es n ≡ es ++ (eventFrom n ∷ [])
+unfolding refusalOf takenWith takenAfter
+taken-with es n z =
+    by-test (noOperation (n .operation))
+    (λ q. let three : 3 ≡ 0 = rw q at z in absurd (let f : ⊥ = omega arith in f))
+    (λ q.
+    rw (q, eq-eqb (refusalAfter (reverse es) (eventFrom n)) 0 (rw q at z))
+    (reverse-cons (eventFrom n) (reverse es) ∙ ap (λ (l : List Event). l ++ (eventFrom n ∷ [])) (reverse-reverse es)))
+
 -- an accepted list is taken whole, in numbers too
 one-taken : (es : List Event) (e : Event) → refusalAfter (reverse es) e ≡ 0 → (refusalOf (reverse es) (inNumbers e) ≡ 0) × (takenWith es (inNumbers e) ≡ es ++ (e ∷ []))
-unfolding refusalOf takenWith takenAfter
+unfolding refusalOf
 one-taken es e z =
-    rw (an-operation (e .operation), event-back e)
-    (z, rw (eq-eqb (refusalAfter (reverse es) e) 0 z) (reverse-cons e (reverse es) ∙ ap (λ (l : List Event). l ++ (e ∷ [])) (reverse-reverse es)))
+    let zero : refusalOf (reverse es) (inNumbers e) ≡ 0 = rw (an-operation (e .operation), event-back e) z in
+    (zero, taken-with es (inNumbers e) zero ∙ ap (λ (x : Event). es ++ (x ∷ [])) (event-back e))
 
 in-order : (es order : List Event) → AcceptedAfter (reverse es) order
     → (takenAll es (map inNumbers order) ≡ es ++ order) × (refusalsAll es (map inNumbers order) ≡ replicate (length order) 0)
@@ -120,6 +133,33 @@ every-history bytes b numbers =
               let v = run-over ss order pattern (logBytes order) q (log-read order (ordered .0) heights) (k .given) (k .run) in
               ap (λ x. x .kind) (k .numbers) ∙ ap₂ kindOf (v .0) (same-verdict ss order (takenAll [] numbers) alike _ _ (v .1) (said ss _ _ (all .1)));
         }
+
+-- ---- every event that fits no slot
+
+parts-last : (p : Parts) (ns : List Numbers) (n : Numbers) → partsAll p (ns ++ (n ∷ [])) ≡ partsAfter (partsAll p ns) n
+unfolding partsAll
+parts-last p [] n = refl
+parts-last p (m ∷ ns) n = parts-last (partsAfter p m) ns n
+
+-- Note 4 for the exported sessions
+pub every-unmoved : (bytes : List ℕ) → Bytes bytes → (numbers : List Numbers) (n : Numbers) → numberIn (partsAll (openedParts bytes) numbers) n ≡ 0
+    → FitsNone (slotsUsed (readPattern bytes)) (eventFrom n) → EveryUnmoved bytes numbers n
+every-unmoved bytes b numbers n z d =
+    record {
+      verdict-stays = rw (parts-last (openedParts bytes) numbers n) (same .0);
+      partial-matches-stay = rw (parts-last (openedParts bytes) numbers n) (same .1);
+      taken-too = rw (parts-last (openedParts bytes) numbers n, sym (taken-with (takenAll [] numbers) n (sym (one-event ss _ _ all n .0) ∙ z))) (one-event ss _ _ all n .1);
+    }
+  where
+    ss : List Slot
+    ss = slotsUsed (readPattern bytes)
+
+    all : InParts ss (takenAll [] numbers) (partsAll (openedParts bytes) numbers)
+    all = after-all ss [] (openedParts bytes) (opened-in bytes b) numbers .1
+
+    same : (saidIn (partsAfter (partsAll (openedParts bytes) numbers) n) ≡ saidIn (partsAll (openedParts bytes) numbers))
+        × (partsAfter (partsAll (openedParts bytes) numbers) n .table ≡ partsAll (openedParts bytes) numbers .table)
+    same = unmoved-parts ss _ _ all n z d
 
 -- ---- every run
 

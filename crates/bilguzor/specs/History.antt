@@ -1,8 +1,8 @@
 -- Demand 3 for sessions in parts and for exported runs: what is so for every list of events in numbers, the whole list and not each call.
--- Beside it, what every exported replay shows.
+-- Beside it, what an event that fits no slot leaves as it was, and what every exported replay shows.
 use Prim.Native.Nat.{ℕ}
 use mathlib.Core.Path.{_≡_}
-use mathlib.Core.List.{List, [], _∷_, reverse, map}
+use mathlib.Core.List.{List, [], _∷_, _++_, reverse, map}
 use lib.IntN.{ℤ, pos}
 use lib.ListN.{length, replicate, take}
 use Rattle.event.specs.declared.Operation.{Operation}
@@ -20,7 +20,7 @@ use Rattle.replay_log.specs.Shows.{Shows}
 use Rattle.bilguzor.specs.declared.Judgement.{Judgement}
 use Rattle.bilguzor.specs.declared.Parts.{Parts}
 use Rattle.bilguzor.specs.Numbers.{kindOf, RunNumbers}
-use Rattle.bilguzor.specs.Sessions.{openedParts, Numbers, handedOver, numberIn, partsAfter, refusalOf, takenWith, saidIn}
+use Rattle.bilguzor.specs.Sessions.{InParts, openedParts, Numbers, handedOver, eventFrom, numberIn, partsAfter, refusalOf, takenWith, saidIn}
 
 -- the parts, and the number that each event gets, handed over one after another
 unfoldable pub partsAll : Parts → List Numbers → Parts
@@ -78,6 +78,13 @@ pub record EveryRun (pattern log : List ℕ) (r : Judgement) : Type 0 where
   pub events : List Event
   pub reads : readLog log ≡ accepted events
   pub orders : (order : List Event) → Reaches events order → (s : Judgement) → RunNumbers pattern (logBytes order) s → s .kind ≡ r .kind
+
+-- Note 4: "an event that is taken and fits no slot leaves the verdict, and what is kept of partial matches, as they were", after every list of events in
+-- numbers; the parts are then those of a session that has taken it too
+pub record EveryUnmoved (bytes : List ℕ) (numbers : List Numbers) (n : Numbers) : Type 0 where
+  pub verdict-stays : saidIn (partsAll (openedParts bytes) (numbers ++ (n ∷ []))) ≡ saidIn (partsAll (openedParts bytes) numbers)
+  pub partial-matches-stay : partsAll (openedParts bytes) (numbers ++ (n ∷ [])) .table ≡ partsAll (openedParts bytes) numbers .table
+  pub taken-too : InParts (slotsUsed (readPattern bytes)) (takenAll [] numbers ++ (eventFrom n ∷ [])) (partsAll (openedParts bytes) (numbers ++ (n ∷ [])))
 
 -- what is so where a replay says match and gives the length n: the first n bytes of the buffer afterwards are a log that shows the pattern, and a run
 -- over them with the same pattern says match

@@ -8,6 +8,7 @@ ghost use mathlib.Core.List.{List, []};
 ghost use Prim.Native.Nat.{_+_, _≤_, _<_, max};
 ghost use lib.ListN.{length, replicate};
 ghost use Rattle.event.specs.declared.Event.{Event};
+ghost use Rattle.event.specs.declared.Operation.the-variants.{Mark};
 ghost use Rattle.event.specs.Limits.{threads, events};
 ghost use Rattle.event.specs.Slots.{slotOf};
 ghost use Rattle.event.specs.Range.{rangeRefusal};
@@ -57,6 +58,18 @@ pub fn advance(clocks: &mut [u16; CLOCKS], e: Event) -> Stamp
     ensures after { λ r. ⌜ now (clocks .exit) ≡ clocksAfter (now (clocks .entry)) e ⌝ }
     ensures history { λ r. ⌜ ((log : List Event) → ClocksOf log (now (clocks .entry)) → length log < events → rangeRefusal (slotOf e) ≡ 0 → Arrived log e r (now (clocks .exit))) ⌝ }
 {
+    let op = e.operation;
+    match op {
+        Operation::Mark { mark } => alone(clocks, e.thread, mark),
+        _ => arrive(clocks, e),
+    }
+}
+
+// The same, of any event.
+fn arrive(clocks: &mut [u16; CLOCKS], e: Event) -> Stamp
+    ensures stamp { λ r. ⌜ r ≡ stampBy (now (clocks .entry)) e ⌝ }
+    ensures after { λ r. ⌜ now (clocks .exit) ≡ clocksAfter (now (clocks .entry)) e ⌝ }
+{
     let k = event::range(event::slot_of(e));
     if k != 0 {
         return Stamp { at: [0; THREADS] };
@@ -67,6 +80,22 @@ pub fn advance(clocks: &mut [u16; CLOCKS], e: Event) -> Stamp
     let s = listen(clocks, t, rows);
     tell(clocks, rows.told, s);
     tell(clocks, thread_row(t), s);
+    s
+}
+
+// The same, of a mark that thread t passes: it hears and tells the row of its own thread alone. Which mark it is only the contract needs.
+fn alone(clocks: &mut [u16; CLOCKS], t: u8, mark: u16) -> Stamp
+    ensures stamp { λ r. ⌜ r ≡ stampBy (now (clocks .entry)) (record { thread = t; operation = Mark mark }) ⌝ }
+    ensures after { λ r. ⌜ now (clocks .exit) ≡ clocksAfter (now (clocks .entry)) (record { thread = t; operation = Mark mark }) ⌝ }
+{
+    let none = Stamp { at: [0; THREADS] };
+    if t >= event::THREADS {
+        return none;
+    }
+    let row = thread_row(t);
+    let own = hear(none, clocks, row);
+    let s = tick(own, t as usize);
+    tell(clocks, row, s);
     s
 }
 

@@ -29,7 +29,7 @@ use Rattle.session.proofs.Described.{handed-described, verdict-describe
 
 -- ---- every list of events
 
-after-all : (ss : List Slot) (es : List Event) (s : Session) → Describes ss es s → (events : List Event)
+pub after-all : (ss : List Slot) (es : List Event) (s : Session) → Describes ss es s → (events : List Event)
     → (answers s events ≡ refusals (reverse es) events) × Describes ss (reverse (takenFrom (reverse es) events)) (handedAll s events)
 unfolding answers refusals takenFrom handedAll
 after-all ss es s h [] = (refl, rw (reverse-reverse es) h)

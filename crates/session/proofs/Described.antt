@@ -58,6 +58,26 @@ fresh-described ss g =
       search = searching clockHistory.nothing-yet (tableStart.nothing-yet fits ss (g .few)) (no-match-yet ss (g .some));
     }
 
+-- ---- the slots of a session, and what the rules say
+
+module _ (ss : List Slot) (es : List Event) (s : Session) (h : Describes ss es s) where
+  slot-at : (j : ℕ) → j < length ss → getD (s .pattern .slots) j noSlot ≡ getD ss j noSlot
+  slot-at j l = rw (ap (λ p. p .slots) (h .pattern)) (List·getD-append ss _ noSlot j l)
+
+  slot-there : (j : ℕ) → j < length ss → j < length (s .pattern .slots)
+  slot-there j l =
+      let a : length (s .pattern .slots) ≡ length ss + _ = ap length (ap (λ p. p .slots) (h .pattern)) ∙ length-append ss (replicate (slots - length ss) blank) in
+      omega arith
+
+  pub fit-at : (e : Event) (j : ℕ) → j < length ss → getD (fitting (s .pattern .slots) e) j false ≡ fits (getD ss j noSlot) e
+  unfolding fitting
+  fit-at e j l = map-at (λ x. fits x e) (s .pattern .slots) noSlot false j (slot-there j l) ∙ ap (λ x. fits x e) (slot-at j l)
+
+  pub refusal-is : (e : Event) → rules.refusalBy (s .state) (s .taken) e ≡ refusalAfter (reverse es) e
+  refusal-is e =
+      let n : s .taken ≡ length (reverse es) = h .taken ∙ sym (length-reverse es) in
+      rw n (ruleLaws.refusal-agrees (reverse es) (s .state) e (h .state))
+
 -- ---- an event is taken
 
 module _ (ss : List Slot) (es : List Event) (s : Session) (h : Describes ss es s) (e : Event) (z : refusalAfter (reverse es) e ≡ 0) where
@@ -99,21 +119,13 @@ module _ (ss : List Slot) (es : List Event) (s : Session) (h : Describes ss es s
   abbrev offered-to : List ℕ
   offered-to = tableAfter acting fit (s .pattern .size) (keptOf s) e
 
-  slot-at : (j : ℕ) → j < length ss → getD (s .pattern .slots) j noSlot ≡ getD ss j noSlot
-  slot-at j l = rw (ap (λ p. p .slots) (h .pattern)) (List·getD-append ss _ noSlot j l)
-
-  slot-there : (j : ℕ) → j < length ss → j < length (s .pattern .slots)
-  slot-there j l =
-      let a : length (s .pattern .slots) ≡ length ss + _ = ap length (ap (λ p. p .slots) (h .pattern)) ∙ length-append ss (replicate (slots - length ss) blank) in
-      omega arith
-
   kept-after : clock.ClocksOf es (s .clocks) → Keeps fits ss es (s .table) → Keeps fits ss longer offered-to
-  unfolding threadsOf fitting
+  unfolding threadsOf
   kept-after c k =
       offer-kept fits fits-thread ss es acting fit (s .pattern .size) e (stampBy (s .clocks) e) (s .taken + 1) (s .table) k
       (record {
-        acting-is = λ j l. map-at (λ x. x .thread) (s .pattern .slots) noSlot 0 j (slot-there j l) ∙ ap (λ x. x .thread) (slot-at j l);
-        fit-is = λ j l. map-at (λ x. fits x e) (s .pattern .slots) noSlot false j (slot-there j l) ∙ ap (λ x. fits x e) (slot-at j l);
+        acting-is = λ j l. map-at (λ x. x .thread) (s .pattern .slots) noSlot 0 j (slot-there ss es s h j l) ∙ ap (λ x. x .thread) (slot-at ss es s h j l);
+        fit-is = fit-at ss es s h e;
         size-is = ap (λ p. p .size) (h .pattern);
         number-is = ap (λ (n : ℕ). n + 1) (h .taken);
         number-fits = let n : s .taken ≡ length es = h .taken in let r : length es < events = room in omega arith;
@@ -182,10 +194,7 @@ pub handed-described : (ss : List Slot) (es : List Event) (s : Session) → Desc
     → (answerIs (handed s e .answer) ≡ refusal (refusalAfter (reverse es) e) 0) × Describes ss (takenBy es e) (handed s e .session)
 unfolding handed advanced keptAfter takenAfter
 handed-described ss es s h e =
-    let n : s .taken ≡ length (reverse es) = h .taken ∙ sym (length-reverse es) in
-    let r : rules.refusalBy (s .state) (s .taken) e ≡ refusalAfter (reverse es) e =
-    rw n (ruleLaws.refusal-agrees (reverse es) (s .state) e (h .state)) in
-    rw r
+    rw (refusal-is ss es s h e)
     (by-test (eqb (refusalAfter (reverse es) e) 0)
     (λ q.
     rw (q, reverse-cons e (reverse es), reverse-reverse es)

@@ -2,3 +2,4 @@ pub mod Described
 pub mod Steps
 pub mod Demand
 pub mod OneAnswer
+pub mod NoFit

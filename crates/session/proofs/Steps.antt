@@ -1,15 +1,15 @@
 -- What the code leaves in a session is what the model says.
 use Prim.Native.Nat.{ℕ, _+_, _-_, _<_}
 use native.Mathlib.Omega.{arith}
-use mathlib.Core.Path.{_≡_, sym, ap, _∙_}
-use mathlib.Core.Bool.{Bool, cond}
+use mathlib.Core.Path.{_≡_, refl, sym, _∙_}
+use mathlib.Core.Bool.{Bool, true, false, cond, _&&_, and-eq-true-iff}
 use mathlib.Core.List.{List, reverse}
 use lib.Dec.{eqb, leb}
-use borrow.Author.Tests.{eq-eqb, ne-eqb, leb-true, leb-false}
+use borrow.Author.Tests.{eqb-true, eqb-false, eq-eqb, ne-eqb, leb-true, leb-false}
 use Rattle.event.specs.declared.Event.{Event}
 use Rattle.event.specs.declared.Slot.{Slot}
 use Rattle.event.specs.Limits.{events}
-use Rattle.event.specs.Slots.{slotOf, fitting, threadsOf}
+use Rattle.event.specs.Slots.{slotOf, fitting, threadsOf, NoneFitted}
 use Rattle.event.proofs.Tests.{by-test}
 use Rattle.event.proofs.InRange.{from-range}
 use Rattle.rules.specs.Accepted.{refusalAfter}
@@ -18,8 +18,10 @@ use Rattle.rules.proofs.StateLaws.{taken-in-range, too-many, after-refused}
 use Rattle.clock.specs.declared.Stamp.{Stamp}
 use Rattle.clock.specs.Clocks.{stampBy, clocksAfter}
 use Rattle.table.specs.Table.{offered, foundIn}
+use Rattle.table.proofs.Verdict.{offered-still}
 use Rattle.session.specs.declared.Session.{Session}
 use Rattle.session.specs.declared.Answer.{Answer}
+use Rattle.session.specs.declared.Admission.{Admission}
 use Rattle.session.specs.declared.Handed.{Handed}
 use Rattle.session.specs.declared.Verdict.{Verdict}
 use Rattle.session.specs.Answers.{refusal, answerIs, verdictIs}
@@ -38,39 +40,59 @@ room state n e z =
 
 -- ---- what is kept
 
-module _ (acting : List ℕ) (fit : List Bool) (size : ℕ) (k : Kept) (e : Event) (state : List ℕ) (q : state ≡ stateAfter (k .state) (k .taken) e) where
-  pub kept-refused : (refusalBy (k .state) (k .taken) e ≡ 0 → ⊥)
-      → _≡_ {A = Kept} (record { state = state; clocks = k .clocks; table = k .table; taken = k .taken; count = k .count }) (keptAfter acting fit size k e)
-  unfolding keptAfter
-  kept-refused d =
-      let same : state ≡ k .state = q ∙ sym (after-refused (k .state) (k .taken) e d) in
-      rw (ne-eqb (refusalBy (k .state) (k .taken) e) 0 d)
-      (λ i. record { state = same i; clocks = k .clocks; table = k .table; taken = k .taken; count = k .count })
+-- the event has been handed to the rules, and is counted where it is taken
+module _ (acting : List ℕ) (fit : List Bool) (size : ℕ) (k : Kept) (e : Event) (c : Admission) (state : List ℕ) (taken : ℕ) (n : c .number ≡ refusalBy (k .state) (k .taken) e)
+    (g : c .searched ≡ (eqb (c .number) 0 && eqb (k .count) 0)) (q : state ≡ stateAfter (k .state) (k .taken) e)
+    (t : taken ≡ cond (eqb (c .number) 0) (k .taken + 1) (k .taken)) where
+  -- rules and number of events alone
+  abbrev unsearched : Kept
+  unsearched = record { state = state; clocks = k .clocks; table = k .table; taken = taken; count = k .count }
 
-  -- with a match, only the rules go on
-  pub kept-matched : (k .count ≡ 0 → ⊥)
-      → _≡_ {A = Kept} (record { state = state; clocks = k .clocks; table = k .table; taken = k .taken + 1; count = k .count }) (keptAdvanced acting fit size k e)
-  unfolding keptAdvanced
-  kept-matched h =
-      rw (ne-eqb (k .count) 0 h)
-      (λ i. record { state = q i; clocks = k .clocks; table = k .table; taken = k .taken + 1; count = k .count })
+  -- refused, it leaves all as it was; with a match, only the rules go on
+  pub kept-unsearched : c .searched ≡ false → unsearched ≡ keptAfter acting fit size k e
+  unfolding keptAfter keptAdvanced
+  kept-unsearched d = by-test (eqb (c .number) 0) matched refused
+    where
+      refused : eqb (c .number) 0 ≡ false → unsearched ≡ keptAfter acting fit size k e
+      refused z =
+          let some = eqb-false (refusalBy (k .state) (k .taken) e) 0 (rw n at z) in
+          let same : state ≡ k .state = q ∙ sym (after-refused (k .state) (k .taken) e some) in
+          let as-many : taken ≡ k .taken = t ∙ rw z in
+          rw (ne-eqb (refusalBy (k .state) (k .taken) e) 0 some)
+          (λ i. record { state = same i; clocks = k .clocks; table = k .table; taken = as-many i; count = k .count })
 
-  -- without one, the event is offered to the table with its stamp
-  pub kept-searched : (stamp : Stamp) (clocks table : List ℕ) (count : ℕ) → k .count ≡ 0 → stamp ≡ stampBy (k .clocks) e → clocks ≡ clocksAfter (k .clocks) e
-      → table ≡ offered (k .table) acting fit size (e .thread) stamp (k .taken + 1) → count ≡ cond (foundIn table size) (k .taken + 1) 0
-      → _≡_ {A = Kept} (record { state = state; clocks = clocks; table = table; taken = k .taken + 1; count = count }) (keptAdvanced acting fit size k e)
-  unfolding keptAdvanced
-  kept-searched stamp clocks table count h st cl tb co =
-      let t : table ≡ tableAfter acting fit size k e = tb ∙ ap (λ (x : Stamp). offered (k .table) acting fit size (e .thread) x (k .taken + 1)) st in
-      let c : count ≡ cond (foundIn (tableAfter acting fit size k e) size) (k .taken + 1) 0 =
-      co ∙ ap (λ (x : List ℕ). cond (foundIn x size) (k .taken + 1) 0) t in
-      rw (eq-eqb (k .count) 0 h)
-      (λ i. record { state = q i; clocks = cl i; table = t i; taken = k .taken + 1; count = c i })
+      matched : eqb (c .number) 0 ≡ true → unsearched ≡ keptAfter acting fit size k e
+      matched z =
+          let found : eqb (k .count) 0 ≡ false = sym (rw z at g) ∙ d in
+          let one-more : taken ≡ k .taken + 1 = t ∙ rw z in
+          rw (rw n at z, found)
+          (λ i. record { state = q i; clocks = k .clocks; table = k .table; taken = one-more i; count = k .count })
 
-pub kept-taken : (acting : List ℕ) (fit : List Bool) (size : ℕ) (k after : Kept) (e : Event) → refusalBy (k .state) (k .taken) e ≡ 0
-    → after ≡ keptAdvanced acting fit size k e → after ≡ keptAfter acting fit size k e
-unfolding keptAfter
-kept-taken acting fit size k after e z q = rw (eq-eqb (refusalBy (k .state) (k .taken) e) 0 z) q
+  module _ (u : c .searched ≡ true) where
+    no-refusal : c .number ≡ 0
+    no-refusal = eqb-true _ _ (and-eq-true-iff (eqb (c .number) 0) (eqb (k .count) 0) .0 (sym g ∙ u) .0)
+
+    no-match : eqb (k .count) 0 ≡ true
+    no-match = and-eq-true-iff (eqb (c .number) 0) (eqb (k .count) 0) .0 (sym g ∙ u) .1
+
+    -- the event is offered to the table with its stamp
+    pub kept-searched : (stamp : Stamp) (clocks table : List ℕ) (count : ℕ) → stamp ≡ stampBy (k .clocks) e → clocks ≡ clocksAfter (k .clocks) e
+        → table ≡ offered (k .table) acting fit size (e .thread) stamp taken → count ≡ cond (foundIn table size) taken 0
+        → _≡_ {A = Kept} (record { state = state; clocks = clocks; table = table; taken = taken; count = count }) (keptAfter acting fit size k e)
+    unfolding keptAfter keptAdvanced
+    kept-searched stamp clocks table count st cl tb co =
+        let one-more : taken ≡ k .taken + 1 = t ∙ rw (eq-eqb (c .number) 0 no-refusal) in
+        let after : table ≡ tableAfter acting fit size k e = tb ∙ (λ i. offered (k .table) acting fit size (e .thread) (st i) (one-more i)) in
+        let found : count ≡ cond (foundIn (tableAfter acting fit size k e) size) (k .taken + 1) 0 = co ∙ (λ i. cond (foundIn (after i) size) (one-more i) 0) in
+        rw (eq-eqb (refusalBy (k .state) (k .taken) e) 0 (sym n ∙ no-refusal), no-match)
+        (λ i. record { state = q i; clocks = cl i; table = after i; taken = one-more i; count = found i })
+
+    -- where it fits none of the slots the table stays, and its stamp goes on all the same
+    pub kept-skipped : (clocks : List ℕ) (count : ℕ) → clocks ≡ clocksAfter (k .clocks) e → NoneFitted size fit → count ≡ cond (foundIn (k .table) size) taken 0
+        → _≡_ {A = Kept} (record { state = state; clocks = clocks; table = k .table; taken = taken; count = count }) (keptAfter acting fit size k e)
+    kept-skipped clocks count cl none co =
+        kept-searched (stampBy (k .clocks) e) clocks (k .table) count refl cl
+        (sym (offered-still (k .table) acting fit size (e .thread) (stampBy (k .clocks) e) taken none)) co
 
 -- ---- the session
 

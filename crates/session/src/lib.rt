@@ -3,12 +3,16 @@ use event::Event;
 use log::Pattern;
 use log::PatternAnswer;
 ghost use mathlib.Core.Path.{_≡_};
+ghost use mathlib.Core.Bool.{Bool, cond, _&&_};
 ghost use mathlib.Core.List.{List, reverse};
+ghost use Prim.Native.Nat.{ℕ, _+_};
+ghost use lib.Dec.{eqb};
 ghost use Rattle.event.specs.declared.Event.{Event};
 ghost use Rattle.event.specs.declared.Slot.{Slot};
 ghost use Rattle.event.specs.Limits.{threads as threadLimit, slots as slotLimit, events as eventLimit};
 ghost use Rattle.rules.specs.Accepted.{refusalAfter};
-ghost use Rattle.rules.specs.State.{refusalBy};
+ghost use Rattle.event.specs.Slots.{NoneFitted};
+ghost use Rattle.rules.specs.State.{refusalBy, stateAfter};
 ghost use Rattle.session.specs.Answers.{refusal, answerIs, verdictIs};
 ghost use Rattle.session.specs.Model.{orLone, freshOn, keptAfter, handed, answerBy, foundAt, verdictOf};
 ghost use Rattle.session.specs.Meaning.{OpenedOn, Describes, VerdictOf, takenBy};
@@ -37,6 +41,12 @@ pub enum Answer {
 pub struct Handed {
     pub answer: Answer,
     pub session: Session,
+}
+
+// What the rules said of an event, and whether it is searched for a match: it is taken, and there is none yet.
+struct Admission {
+    number: u8,
+    searched: bool,
 }
 
 pub enum Found {
@@ -101,8 +111,8 @@ impl Session {
         let mut table = self.table;
         let mut taken = self.taken;
         let mut count = self.count;
-        let acting = slots::threads_of(slots);
         let fit = slots::fitting(slots, e);
+        let acting = slots::threads_of(slots);
         let number = hand(
             &mut state,
             &mut clocks,
@@ -155,20 +165,63 @@ pub fn hand(
     ensures number { λ r. ⌜ r ≡ refusalBy (now (state .entry)) (now (taken .entry)) e ⌝ }
     ensures after { λ r. ⌜ record { state = now (state .exit); clocks = now (clocks .exit); table = now (table .exit); taken = now (taken .exit); count = now (count .exit) } ≡ keptAfter acting fit size (record { state = now (state .entry); clocks = now (clocks .entry); table = now (table .entry); taken = now (taken .entry); count = now (count .entry) }) e ⌝ }
 {
-    let before = *taken as usize;
-    let k = rules::admit(state, before, e);
-    if k != 0 {
-        return k;
+    if slots::none_fitted(fit, size) {
+        return skip(state, clocks, table, taken, count, size, e);
     }
-    let n = (before + 1) as u16;
-    *taken = n;
-    if *count != 0 {
-        return 0;
+    let admission = admit_one(state, taken, *count, e);
+    if !admission.searched {
+        return admission.number;
     }
+    let n = *taken;
     let stamp = clock::advance(clocks, e);
     table::offer(table, acting, fit, size, e.thread, stamp, n);
     *count = table::count_at(table, size, n);
-    0
+    admission.number
+}
+
+// Hands over one event that fits none of the slots. The table of partial matches is not written; but until there is a match the clocks go on, since later
+// events hear of this one. The number and what is kept are those of `hand`, whatever the slots are.
+pub fn skip(
+    state: &mut [u8; rules::STATE],
+    clocks: &mut [u16; clock::CLOCKS],
+    table: &[u16; table::TABLE],
+    taken: &mut u16,
+    count: &mut u16,
+    size: usize,
+    e: Event,
+) -> u8
+    ensures number { λ r. ⌜ r ≡ refusalBy (now (state .entry)) (now (taken .entry)) e ⌝ }
+    ensures after { λ r. ⌜ ((acting : List ℕ) (fit : List Bool) → NoneFitted size fit → record { state = now (state .exit); clocks = now (clocks .exit); table = now (table .entry); taken = now (taken .exit); count = now (count .exit) } ≡ keptAfter acting fit size (record { state = now (state .entry); clocks = now (clocks .entry); table = now (table .entry); taken = now (taken .entry); count = now (count .entry) }) e) ⌝ }
+{
+    let admission = admit_one(state, taken, *count, e);
+    if !admission.searched {
+        return admission.number;
+    }
+    clock::advance(clocks, e);
+    *count = table::count_at(table, size, *taken);
+    admission.number
+}
+
+// Hands one event to the rules, and where it is taken there is one event more.
+fn admit_one(state: &mut [u8; rules::STATE], taken: &mut u16, count: u16, e: Event) -> Admission
+    ensures number { λ r. ⌜ r .number ≡ refusalBy (now (state .entry)) (now (taken .entry)) e ⌝ }
+    ensures searched { λ r. ⌜ r .searched ≡ (eqb (r .number) 0 && eqb count 0) ⌝ }
+    ensures state { λ r. ⌜ now (state .exit) ≡ stateAfter (now (state .entry)) (now (taken .entry)) e ⌝ }
+    ensures taken { λ r. ⌜ now (taken .exit) ≡ cond (eqb (r .number) 0) (now (taken .entry) + 1) (now (taken .entry)) ⌝ }
+{
+    let before = *taken as usize;
+    let number = rules::admit(state, before, e);
+    if number != 0 {
+        return Admission {
+            number,
+            searched: false,
+        };
+    }
+    *taken = (before + 1) as u16;
+    Admission {
+        number,
+        searched: count == 0,
+    }
 }
 
 fn wide(x: u16) -> usize

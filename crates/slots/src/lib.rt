@@ -1,9 +1,11 @@
-// The slots of a pattern together: which of them an event fits, their threads, their numbers and their keys.
+// The slots of a pattern together: which of them an event fits and whether it is none, their threads, their numbers and their keys.
 use event::Event;
 use event::SLOTS;
 use event::Slot;
 ghost use mathlib.Core.Path.{_≡_};
-ghost use Rattle.event.specs.Slots.{fitting, threadsOf};
+ghost use mathlib.Core.Logic.{_↔_};
+ghost use mathlib.Core.Bool.{true};
+ghost use Rattle.event.specs.Slots.{fitting, threadsOf, NoneFitted};
 ghost use Rattle.event.specs.Keys.{slotNumber, slotNumbers, slotKey, slotKeys};
 
 // Which slots of a pattern the event fits.
@@ -17,6 +19,21 @@ pub fn fitting(slots: [Slot; SLOTS], e: Event) -> [bool; SLOTS]
         r[j] = b;
     }
     r
+}
+
+// Whether the event fits none of a pattern's slots, by which of its places it fits and how many of them are slots.
+pub fn none_fitted(fit: [bool; SLOTS], size: usize) -> bool
+    ensures { λ r. ⌜ (r ≡ true) ↔ NoneFitted size fit ⌝ }
+{
+    for j in 0..SLOTS {
+        if j >= size {
+            return true;
+        }
+        if fit[j] {
+            return false;
+        }
+    }
+    true
 }
 
 // The thread of each slot of a pattern.

@@ -1,6 +1,6 @@
--- What is found in a table that keeps a list is the list's match; and an event that fits no slot leaves a table as it was.
+-- What is found in a table that keeps a list is the list's match; and an event that fits none of the slots leaves a table as it was.
 -- Assumes nothing.
-use Prim.Native.Nat.{ℕ, _+_, _-_, _^_, _≤_, _<_}
+use Prim.Native.Nat.{ℕ, zero, suc, _+_, _-_, _^_, _≤_, _<_}
 use mathlib.Core.Path.{_≡_, refl, sym, ap, subst, _∙_}
 use mathlib.Core.Logic.{_↔_}
 use mathlib.Core.Bool.{Bool, true, false≢true}
@@ -8,21 +8,23 @@ use mathlib.Core.List.{List}
 use mathlib.Core.Option.{Option, some, none}
 use native.Mathlib.Nat.{add-assoc}
 use native.Mathlib.Omega.{arith}
+use lib.Dec.{leb, ltb}
 use lib.ListN.{length, getD, take, replicate, length-replicate}
 use lib.Seq.{ext-getD, getD-take, length-take-le}
 use borrow.Author.Tests.{le-leb}
 use Rattle.event.specs.declared.Event.{Event}
 use Rattle.event.specs.declared.Slot.{Slot}
-use Rattle.event.specs.Limits.{slots}
-use Rattle.event.specs.Slots.{noEvent}
+use Rattle.event.specs.Limits.{threads, slots}
+use Rattle.event.specs.Slots.{noEvent, NoneFitted}
 use Rattle.event.proofs.Tests.{by-test}
 use Rattle.event.proofs.Updated.{updated-length, updated-first}
 use Rattle.trace.specs.Tuples.{pick}
 use Rattle.trace.proofs.Verdict.{Answers, match, no-match, best-answers}
 use Rattle.dependence.specs.Dependence.{dependent}
 use Rattle.trace.specs.Match.{HasMatch, Named}
+use Rattle.clock.specs.declared.Stamp.{Stamp}
 use Rattle.table.specs.Sets.{lanes, held}
-use Rattle.table.specs.Table.{pasted, lastRow, foundIn, numbersIn}
+use Rattle.table.specs.Table.{pasted, slotOffered, offeredDown, offered, lastRow, foundIn, numbersIn}
 use Rattle.table.specs.Keeps.{Fits, Greatest, rowIn, numbersOf, Keeping, kept, missing, Keeps, NumbersFound}
 use Rattle.table.proofs.RowLaws.{pasted-outside}
 use Rattle.table.proofs.BitLaws.{number-all, pick-all, listed-length, listed-at}
@@ -130,3 +132,18 @@ module _ (fits : Fits) (ss : List Slot) (log : List Event) (table : List ℕ) (h
       names : Verdict → HasMatch dependent fits ss log → Named dependent fits ss log (length log) (numbersOf d row)
       names (with-row r a b) m = b
       names (with-none r a) m = absurd (a m)
+
+-- ---- an event that fits none of the slots
+
+module _ (table acting : List ℕ) (fit : List Bool) (n t : ℕ) (stamp : Stamp) (number : ℕ) where
+  down-still : (k : ℕ) → NoneFitted k fit → offeredDown k table acting fit n t stamp number ≡ table
+  unfolding offeredDown slotOffered
+  down-still zero d = refl
+  down-still (suc k) d = rw (d k (omega arith)) (down-still k (λ j l. d j (omega arith)))
+
+  pub offered-still : NoneFitted n fit → offered table acting fit n t stamp number ≡ table
+  unfolding offered
+  offered-still d =
+      by-test (ltb t threads)
+      (λ q. rw q (by-test (leb n slots) (λ l. rw l (down-still n d)) (λ l. rw l)))
+      (λ q. rw q)

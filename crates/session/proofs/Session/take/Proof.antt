@@ -12,7 +12,7 @@ returns c =
     let h = c .before .hand .ensures in
     after (a .self) (a .e) _
     (handed-is (a .self) (a .e) _ _ (c .answer-by .ensures ∙ ap answerBy (h .0))
-    (rw (c .before .before .before .before .before .before .before .before .threads-of .ensures, c .before .before .before .before .before .before .before .fitting .ensures) at (h .1)))
+    (rw (c .before .before .before .before .before .before .before .threads-of .ensures, c .before .before .before .before .before .before .before .before .fitting .ensures) at (h .1)))
 
 pub take-spec : {M : Type 1} → statement M
 take-spec =
