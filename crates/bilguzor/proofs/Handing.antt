@@ -29,15 +29,18 @@ use Rattle.session.proofs.Described.{fresh-described, used-good, refusal-is, ha
 use Rattle.session.specs.NoFit.{FitsNone}
 use Rattle.session.proofs.NoFit.{unmoved}
 use Rattle.table.specs.Table.{numbersIn}
+use Rattle.event_numbers.specs.EventNumbers.{Numbers, handedOver, noOperation, eventFrom, unfitBy}
+use Rattle.event_numbers.specs.SlotNumbers.{actingIn, fittingIn}
+use Rattle.event_numbers.proofs.Events.{operates, fit}
+use Rattle.event_numbers.proofs.SlotsIn.{places-within, threads-told, fits-told}
 use Rattle.bilguzor.specs.declared.Answer.{Answer}
 use Rattle.bilguzor.specs.declared.Judgement.{Judgement}
 use Rattle.bilguzor.specs.declared.Opening.{Opening}
 use Rattle.bilguzor.specs.declared.Parts.{Parts}
 use Rattle.bilguzor.specs.Numbers.{judgementOf, asOutcome}
-use Rattle.bilguzor.specs.Parts.{partsOf, keptIn, partsWith, actingIn, fittingIn}
-use Rattle.bilguzor.specs.Sessions.{InParts, openingFrom, openedParts, openingOf, Numbers, handedOver, noOperation, eventFrom, unfitBy, numberIn, partsAfter, refusalOf, takenWith, Takes, rulingIn, saidIn}
-use Rattle.bilguzor.proofs.Events.{operates, unfit-number, fit}
-use Rattle.bilguzor.proofs.SlotsIn.{places-within, threads-told, fits-told}
+use Rattle.bilguzor.specs.Parts.{partsOf, keptIn, partsWith}
+use Rattle.bilguzor.specs.Sessions.{InParts, openingFrom, openedParts, openingOf, numberIn, partsAfter, refusalOf, takenWith, Takes, rulingIn, saidIn}
+use Rattle.bilguzor.proofs.Events.{unfit-number}
 
 -- ---- one event, handed to the parts of a session
 

@@ -1,4 +1,3 @@
 pub mod Events
-pub mod SlotsIn
 pub mod Handing
 pub mod Whole

@@ -29,11 +29,12 @@ use Rattle.session.specs.Model.{slotsUsed}
 use Rattle.session.specs.NoFit.{FitsNone}
 use Rattle.replay_log.specs.Replay.{ReplayOf, refused, too-short, none, shown}
 use Rattle.replay_log.proofs.Showing.{verdict-shows}
+use Rattle.event_numbers.specs.EventNumbers.{Numbers, noOperation, eventFrom}
 use Rattle.bilguzor.specs.declared.Judgement.{Judgement}
 use Rattle.bilguzor.specs.declared.Parts.{Parts}
 use Rattle.bilguzor.specs.declared.Replayed.{Replayed}
 use Rattle.bilguzor.specs.Numbers.{kindOf, RunNumbers, ReplayNumbers}
-use Rattle.bilguzor.specs.Sessions.{InParts, openedParts, Numbers, noOperation, eventFrom, numberIn, partsAfter, refusalOf, takenWith, saidIn}
+use Rattle.bilguzor.specs.Sessions.{InParts, openedParts, numberIn, partsAfter, refusalOf, takenWith, saidIn}
 use Rattle.bilguzor.specs.History.{partsAll, answersAll, takenAll, refusalsAll, heightIn, inNumbers, SameAnswer, EveryHistory, EveryRun, EveryUnmoved, EveryReplay}
 use Rattle.bilguzor.proofs.Handing.{one-event, unmoved-parts, opened-in, said}
 

@@ -17,10 +17,11 @@ use Rattle.session.specs.Answers.{nothing}
 use Rattle.session.specs.Model.{slotsUsed}
 use Rattle.session.specs.Meaning.{VerdictOf}
 use Rattle.replay_log.specs.Shows.{Shows}
+use Rattle.event_numbers.specs.EventNumbers.{Numbers, handedOver, eventFrom}
 use Rattle.bilguzor.specs.declared.Judgement.{Judgement}
 use Rattle.bilguzor.specs.declared.Parts.{Parts}
 use Rattle.bilguzor.specs.Numbers.{kindOf, RunNumbers}
-use Rattle.bilguzor.specs.Sessions.{InParts, openedParts, Numbers, handedOver, eventFrom, numberIn, partsAfter, refusalOf, takenWith, saidIn}
+use Rattle.bilguzor.specs.Sessions.{InParts, openedParts, numberIn, partsAfter, refusalOf, takenWith, saidIn}
 
 -- the parts, and the number that each event gets, handed over one after another
 unfoldable pub partsAll : Parts → List Numbers → Parts

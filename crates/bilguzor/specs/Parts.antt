@@ -1,8 +1,6 @@
 -- A session in parts, as a program in C holds it: a number for each slot, how many slots there are, and what is kept of the events taken.
-use Prim.Native.Nat.{ℕ, _/_, _%_}
-use mathlib.Core.Bool.{Bool}
-use mathlib.Core.List.{List, map}
-use lib.Dec.{eqb}
+use Prim.Native.Nat.{ℕ}
+use mathlib.Core.List.{List}
 use Rattle.event.specs.Keys.{slotNumbers}
 use Rattle.session.specs.declared.Session.{Session}
 use Rattle.session.specs.Model.{Kept}
@@ -23,10 +21,3 @@ partsWith p k = lent (p .slots) (p .size) (k .state) (k .clocks) (k .table) (k .
 -- the parts of a session
 abbrev pub partsOf : Session → Parts
 partsOf s = lent (slotNumbers (s .pattern .slots)) (s .pattern .size) (s .state) (s .clocks) (s .table) (s .taken) (s .count)
-
--- the thread in the number of each slot, and which of them an event fits whose own slot has the number n
-unfoldable pub actingIn : List ℕ → List ℕ
-actingIn slots = map (λ m. m / 256 % 256) slots
-
-unfoldable pub fittingIn : List ℕ → ℕ → List Bool
-fittingIn slots n = map (λ m. eqb m n) slots

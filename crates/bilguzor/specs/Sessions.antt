@@ -1,28 +1,26 @@
 -- What opening, an event in numbers and the verdict answer of a session in parts.
-use Prim.Native.Nat.{ℕ, _<_}
+use Prim.Native.Nat.{ℕ}
 use mathlib.Core.Path.{_≡_}
-use mathlib.Core.Bool.{Bool, cond, _||_}
+use mathlib.Core.Bool.{cond}
 use mathlib.Core.List.{List, reverse}
-use lib.Dec.{eqb, leb, ltb}
-use lib.IntN.{ℤ}
 use Rattle.event.specs.declared.Event.{Event}
 use Rattle.event.specs.declared.Slot.{Slot}
-use Rattle.event.specs.Limits.{threads, marks}
 use Rattle.event.specs.Slots.{slotOf}
 use Rattle.event.specs.Keys.{slotNumber}
 use Rattle.rules.specs.Accepted.{refusalAfter}
 use Rattle.rules.specs.State.{refusalBy}
-use Rattle.command.specs.Reading.{operationOf}
 use Rattle.log.specs.Whole.{Passing, passed, refused, outcomeOf, patternOf, readPattern}
 use Rattle.table.specs.Table.{numbersIn}
 use Rattle.session.specs.declared.Session.{Session}
 use Rattle.session.specs.Answers.{Ruling, foundIs}
 use Rattle.session.specs.Model.{slotsUsed, freshOn, keptAfter, foundAt}
 use Rattle.session.specs.Meaning.{Describes, takenBy}
+use Rattle.event_numbers.specs.EventNumbers.{Numbers, noOperation, eventFrom}
+use Rattle.event_numbers.specs.SlotNumbers.{actingIn, fittingIn}
 use Rattle.bilguzor.specs.declared.Answer.{Answer}
 use Rattle.bilguzor.specs.declared.Opening.{Opening}
 use Rattle.bilguzor.specs.declared.Parts.{Parts}
-use Rattle.bilguzor.specs.Parts.{partsOf, keptIn, partsWith, actingIn, fittingIn}
+use Rattle.bilguzor.specs.Parts.{partsOf, keptIn, partsWith}
 
 -- the parts are those of a session that has this pattern and has taken these events: "A session comes only from opening or from an earlier event"
 pub record InParts (ss : List Slot) (es : List Event) (p : Parts) : Type 0 where
@@ -45,38 +43,6 @@ abbrev pub openingOf : List ℕ → Opening
 openingOf bytes = openingFrom (outcomeOf (readPattern bytes)) (openedParts bytes)
 
 -- ---- an event in numbers
-
--- an event as it is handed over, whatever its numbers
-pub record Numbers : Type 0 where
-  pub thread : ℕ
-  pub operation : ℕ
-  pub object : ℕ
-  pub height : ℤ
-
-abbrev pub handedOver : ℕ → ℕ → ℕ → ℤ → Numbers
-handedOver t b object height = record { thread = t; operation = b; object = object; height = height }
-
--- "byte | event": a number that is the byte of no event, which "3 | byte above 07" refuses; so is 0, which closes a log and is none
-abbrev pub noOperation : ℕ → Bool
-noOperation b = eqb b 0 || ltb 7 b
-
--- the event of the numbers, whether or not they are within their limits
-abbrev pub eventFrom : Numbers → Event
-eventFrom n = record { thread = n .thread; operation = operationOf (n .operation) (n .object) (n .height) }
-
--- the object fits the one byte that every event but a mark gives it
-abbrev pub Narrow : ℕ → ℕ → Type 0
-Narrow b object = (b ≡ 7 → ⊥) → object < 256
-
--- the refusal of numbers that no event of a log can have: 3, then 5, then 6; 0 where there is such an event
-abbrev pub unfitBy : ℕ → ℕ → ℕ → ℕ
-unfitBy t b object =
-    cond (eqb b 0) 3
-    (cond (ltb 7 b) 3
-    (cond (leb threads t) 5
-    (cond (leb marks object) 6
-    (cond (eqb b 7) 0
-    (cond (leb 256 object) 6 0)))))
 
 -- "A single event handed to a session .. passes 5 to 7 first; its offset is 0": 3 goes before. The number, and the parts afterwards
 unfoldable pub numberIn : Parts → Numbers → ℕ

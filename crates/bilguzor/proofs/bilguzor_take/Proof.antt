@@ -2,8 +2,8 @@ use lib.IntN.{ℤ}
 use mir.Facts.{toZ-ofZ}
 use Rattle.bilguzor.specs.declared.Parts.{Parts}
 use Rattle.bilguzor.specs.Parts.{lent}
-use Rattle.bilguzor.specs.Sessions.{handedOver, eventFrom, unfitBy}
-use Rattle.bilguzor.proofs.Events.{Fit, fit}
+use Rattle.event_numbers.specs.EventNumbers.{handedOver, eventFrom, unfitBy}
+use Rattle.event_numbers.proofs.Events.{Fit, fit}
 use Rattle.bilguzor.proofs.Handing.{turned-away, handed-on}
 use native.Mathlib.Omega.{arith}
 use mathlib.Core.Path.{_≡_, ap, sym, _∙_}

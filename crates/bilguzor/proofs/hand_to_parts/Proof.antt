@@ -1,6 +1,6 @@
 use borrow.Author.Needs.{needs}
-use Rattle.bilguzor.specs.Parts.{actingIn, fittingIn}
-use Rattle.bilguzor.proofs.SlotsIn.{none-told}
+use Rattle.event_numbers.specs.SlotNumbers.{actingIn, fittingIn}
+use Rattle.event_numbers.proofs.SlotsIn.{none-told}
 use Rattle.bilguzor.proofs.hand_to_parts.Statement.{statement}
 use Rattle.bilguzor.proofs.hand_to_parts.Tie as tie
 

@@ -15,7 +15,7 @@ use Rattle.event.specs.Keys.{slotNumber, slotNumbers}
 use Rattle.event.proofs.InRange.{in-range}
 use Rattle.event.proofs.SlotNumbers.{byte-low, fits-by-number}
 use Rattle.log.specs.Whole.{InLimits, no-slot, one-slot, GoodPattern, blank, padded}
-use Rattle.bilguzor.specs.Parts.{actingIn, fittingIn}
+use Rattle.event_numbers.specs.SlotNumbers.{actingIn, fittingIn}
 
 -- a good pattern's slots are within their limits, and so are the places beyond them
 blanks : (n : ℕ) → InLimits (replicate n blank)

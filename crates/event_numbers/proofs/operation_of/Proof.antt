@@ -3,8 +3,8 @@ use native.Mathlib.Omega.{arith}
 use native.Mathlib.Nat.{mod-eq-of-lt}
 use borrow.Author.Tests.{ne-eqb}
 use borrow.Author.Needs.{needs}
-use Rattle.bilguzor.proofs.operation_of.Statement.{statement}
-use Rattle.bilguzor.proofs.operation_of.Tie as tie
+use Rattle.event_numbers.proofs.operation_of.Statement.{statement}
+use Rattle.event_numbers.proofs.operation_of.Tie as tie
 
 returns : tie.Need-returns
 returns c = rw (c .match .keys1, mod-eq-of-lt (c .before .pre (λ z. let f : ⊥ = omega arith in f)))

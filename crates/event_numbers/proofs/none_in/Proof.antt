@@ -8,8 +8,8 @@ use borrow.Author.Needs.{needs}
 use borrow.Author.Tests.{le-leb, leb-true}
 use Rattle.event.specs.Limits.{slots as slotLimit}
 use Rattle.slots.proofs.Below.{below-next}
-use Rattle.bilguzor.proofs.none_in.Statement.{statement}
-use Rattle.bilguzor.proofs.none_in.Tie as tie
+use Rattle.event_numbers.proofs.none_in.Statement.{statement}
+use Rattle.event_numbers.proofs.none_in.Tie as tie
 
 -- none of the first k slots has the number
 abbrev Others : List ℕ → ℕ → ℕ → Type 0

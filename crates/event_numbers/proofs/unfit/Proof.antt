@@ -1,7 +1,7 @@
 use Rattle.event.specs.Limits.{threads, marks}
 use borrow.Author.Tests.{eq-eqb, ne-eqb, lt-ltb, le-ltb, le-leb, lt-leb}
-use Rattle.bilguzor.proofs.unfit.Statement.{statement}
-use Rattle.bilguzor.proofs.unfit.Tie as tie
+use Rattle.event_numbers.proofs.unfit.Statement.{statement}
+use Rattle.event_numbers.proofs.unfit.Tie as tie
 
 returns : tie.Need-returns
 returns c = rw (eq-eqb (c .before .args .operation) 0 (c .if1 .taken))

@@ -1,7 +1,7 @@
 use mir.Facts.{toZ-ofZ}
 use borrow.Author.Needs.{needs}
-use Rattle.bilguzor.proofs.event_of.Statement.{statement}
-use Rattle.bilguzor.proofs.event_of.Tie as tie
+use Rattle.event_numbers.proofs.event_of.Statement.{statement}
+use Rattle.event_numbers.proofs.event_of.Tie as tie
 
 returns : tie.Need-returns
 returns c = rw (c .operation-of .ensures, toZ-ofZ (c .before .fits .height))

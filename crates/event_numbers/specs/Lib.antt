@@ -1,0 +1,2 @@
+pub mod EventNumbers
+pub mod SlotNumbers
