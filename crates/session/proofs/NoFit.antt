@@ -75,7 +75,7 @@ module _ (ss : List Slot) (es : List Event) (s : Session) (h : Describes ss es s
 
 -- ---- every session from its opening
 
-handed-last : (s : Session) (events : List Event) (e : Event) → handedAll s (events ++ (e ∷ [])) ≡ handed (handedAll s events) e .session
+pub handed-last : (s : Session) (events : List Event) (e : Event) → handedAll s (events ++ (e ∷ [])) ≡ handed (handedAll s events) e .session
 unfolding handedAll
 handed-last s [] e = refl
 handed-last s (f ∷ events) e = handed-last (handed s f .session) events e

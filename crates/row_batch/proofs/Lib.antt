@@ -1,0 +1,2 @@
+pub mod EventByEvent
+pub mod Batches

@@ -1,0 +1,12 @@
+use borrow.Author.Tests.{eq-eqb, ne-eqb}
+use Rattle.session_row.proofs.answer_of.Statement.{statement}
+use Rattle.session_row.proofs.answer_of.Tie as tie
+
+returns : tie.Need-returns
+returns c = rw (eq-eqb (c .before .before .args .t .count) 0 (c .if1 .taken))
+
+returns-2 : tie.Need-returns-2
+returns-2 c = rw (ne-eqb (c .before .before .args .t .count) 0 (c .if1 .left))
+
+pub answer-of-spec : {M : Type 1} → statement M
+answer-of-spec = tie.close (tie.spec returns returns-2)
