@@ -1,5 +1,5 @@
-// Lists each example folder that its arguments name, and says whether the text is the one in the folder's file `printed`; whether order queries of
-// some of them print what they should; and whether a file that is saved, and a replay, are read again as they should be.
+// Lists each example folder that its arguments name, and says whether the text is the one in the folder's file `printed`; the same of folders with many
+// patterns; whether order queries of some of them print what they should; and whether a file that is saved, and a replay, are read again as they should be.
 use arguments::Pair;
 use writer::Written;
 
@@ -10,7 +10,26 @@ fn main() {
     saved();
     replayed(b"panel");
     ordered();
+    many();
     examples();
+}
+
+// Every kind of line, and gaps between the numbers; more than one batch of events; what a refused log, a long one, a long pattern, and none at all leave of them.
+fn many() {
+    lines(b"many");
+    lines(b"many_batches");
+    lines(b"many_refused");
+    lines(b"many_past_the_limit");
+    lines(b"many_long_pattern");
+    lines(b"many_without_log");
+    lines(b"many_without_patterns");
+}
+
+fn lines(folder: &[u8]) {
+    let mut page = [0u8; page::ROOM];
+    let written = pattern_files::listings(folder, &mut page);
+    io::write_all(1, folder);
+    compare(folder, written, &page);
 }
 
 // Their folders are named after two numbers.
@@ -97,15 +116,20 @@ fn example(n: usize) {
     let mut space = [0u8; NAMES];
     let size = os::arg(n, &mut space);
     io::write_all(1, &space[..size]);
-    compare(&space[..size]);
+    listing(&space[..size]);
 }
 
-fn compare(folder: &[u8]) {
+fn listing(folder: &[u8]) {
     let mut page = [0u8; page::ROOM];
-    let mut printed = [0u8; page::ROOM];
     let written = files::list(folder, &mut page);
+    compare(folder, written, &page);
+}
+
+// Whether what was written is what the folder's file `printed` has.
+fn compare(folder: &[u8], written: Written, page: &[u8]) {
+    let mut printed = [0u8; page::ROOM];
     let k = files::read(folder, b"/printed", &mut printed);
-    verdict(holds(written, &page, &printed[..k]));
+    verdict(holds(written, page, &printed[..k]));
 }
 
 fn verdict(same: bool) {

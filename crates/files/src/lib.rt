@@ -61,14 +61,20 @@ pub fn read_both(folder: &[u8], pattern: &mut [u8], log: &mut [u8]) -> Sizes
 pub fn read(folder: &[u8], name: &[u8], space: &mut [u8]) -> usize
     ensures { λ r. ⌜ Counts r (now (space .exit)) ⌝ }
 {
-    let mut path = io::buffer();
-    let start = append(&mut path, 0, folder);
-    let end = append(&mut path, start, name);
-    let fd = os::open_read(&path[..end]);
+    let fd = open(folder, name);
     read_opened(0 <= fd, fd, space)
 }
 
-fn read_opened(opened: bool, fd: i32, space: &mut [u8]) -> usize
+// Opens a folder's file for reading; below 0 where it can't be opened. The name starts with a slash. No contract can say what the system opens.
+pub fn open(folder: &[u8], name: &[u8]) -> i32 {
+    let mut path = io::buffer();
+    let start = append(&mut path, 0, folder);
+    let end = append(&mut path, start, name);
+    os::open_read(&path[..end])
+}
+
+// Reads a file to its end, or until the space is full, and closes it; one that was not opened has no bytes.
+pub fn read_opened(opened: bool, fd: i32, space: &mut [u8]) -> usize
     ensures { λ r. ⌜ Counts r (now (space .exit)) × (opened ≡ false → r ≡ 0) ⌝ }
 {
     if !opened {

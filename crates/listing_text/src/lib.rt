@@ -52,7 +52,7 @@ fn verdict(p: Page, judged: Judged, log: &[u8]) -> Page
     }
 }
 
-fn match_line(p: Page, count: usize) -> Page
+pub fn match_line(p: Page, count: usize) -> Page
     ensures { λ r. ⌜ r ≡ onto p (matchLine count) ⌝ }
 {
     let q = p.word(b"match at ", count);

@@ -1,0 +1,4 @@
+pub mod FirstLine
+pub mod Widths
+pub mod Watching
+pub mod Lined
