@@ -1,6 +1,6 @@
 // Holds everything that is timed to the independent implementation, on many random inputs, before anything is timed.
 use crate::contest;
-use crate::ffi::{self, Session};
+use crate::ffi::{self, RowReport, Session, ROW};
 use crate::greedy;
 use crate::load::{self, Bytes, Steps};
 use crate::reference::{self, Event, Label, Past};
@@ -13,6 +13,7 @@ const LONG: usize = 300;
 const DAMAGED: usize = 16000;
 const PATTERNS: usize = 8000;
 const DEEP: usize = 400;
+const ROWS: usize = 20000;
 
 #[derive(Default)]
 struct Totals {
@@ -24,6 +25,8 @@ struct Totals {
     verdicts: usize,
     queries: usize,
     replays: usize,
+    rows: usize,
+    divided: usize,
 }
 
 /// Whether one event, counted from 0, comes before another or is it.
@@ -219,7 +222,7 @@ impl Totals {
         for e in list {
             let wanted = past.refusal(e.label);
             let old = session.clone();
-            let got = session.take(e.label.thread, e.label.op, e.label.object, e.height);
+            let got = session.take(numbers(*e));
             assert_eq!(got, wanted, "event {e:?} of {list:?}");
             assert!(got == 0 || session == old, "a refused event changed the session: {list:?}");
             if got == 0 {
@@ -233,6 +236,34 @@ impl Totals {
             self.verdicts += 1;
         }
     }
+
+    /// One event handed to the first sessions of a list as a row: its report, and every byte of the list, are what handing it to each by
+    /// itself gives.
+    fn hand_row(&mut self, list: &mut [Session], size: usize, e: ffi::Event) {
+        let mut wanted = list.to_vec();
+        let report = each_alone(&mut wanted[..size], e);
+        self.rows += 1;
+        self.divided += usize::from(report.count > 0 && report.count < size);
+        assert_eq!(ffi::take_all(&mut list[..size], e), report, "row of {size}: {e:?}");
+        assert!(list == wanted, "a session is not as alone after {e:?} in a row of {size}");
+    }
+}
+
+/// What a row answers, with each session handed the event by itself; a row that is too long is left as it is.
+fn each_alone(row: &mut [Session], e: ffi::Event) -> RowReport {
+    if row.len() > ROW {
+        return RowReport { number: 18, offset: 0, count: 0, place: 0 };
+    }
+    let answers: Vec<u8> = row.iter_mut().map(|session| session.take(e)).collect();
+    let count = answers.iter().filter(|&&number| number != 0).count();
+    let lowest = answers.iter().position(|&number| number != 0);
+    let (number, place) = lowest.map_or((0, 0), |i| (answers[i], i + 1));
+    RowReport { number, offset: 0, count, place }
+}
+
+/// The numbers of an event, as a session takes them.
+fn numbers(e: Event) -> ffi::Event {
+    ffi::Event::new(e.label.thread, e.label.op, e.label.object, e.height)
 }
 
 /// The events of a list that are taken.
@@ -397,6 +428,51 @@ fn deep(totals: &mut Totals, steps: &mut Steps) {
     }
 }
 
+/// An event in numbers, now and then with one that may be past its limit.
+fn any_numbers(steps: &mut Steps) -> ffi::Event {
+    let mut e = numbers(event(steps, 4));
+    match steps.below(12) {
+        0 => e.operation = steps.below(10),
+        1 => e.thread = steps.below(12),
+        2 => e.object = steps.next() >> steps.below(32),
+        _ => {}
+    }
+    e
+}
+
+/// A session that was handed one event again and again until it refused.
+fn worn(op: u8) -> Session {
+    let (mut session, _) = Session::open(&[7, 1, 1, 0, 0]);
+    let e = Event { label: Label { op, thread: 0, object: 0 }, height: 0 };
+    while session.take(numbers(e)) == 0 {}
+    session
+}
+
+/// A session with a pattern and a past of its own, good or bad; now and then one of those that are worn.
+fn with_past(steps: &mut Steps, worn: &[Session]) -> Session {
+    if let Some(session) = worn.get(steps.below(20) as usize) {
+        return session.clone();
+    }
+    let list: Vec<Event> = (0..steps.below(12)).map(|_| event(steps, 4)).collect();
+    let (mut session, _) = Session::open(&pattern_for(steps, &list));
+    for &e in &list {
+        session.take(numbers(e));
+    }
+    session
+}
+
+/// Rows of 0 to 17 sessions, each handed a few events; beside the row lies another session, which must stay as it was.
+fn rows(totals: &mut Totals, steps: &mut Steps) {
+    let worn = [worn(7), worn(3)];
+    for _ in 0..ROWS {
+        let size = steps.below(ROW as u32 + 2) as usize;
+        let mut list: Vec<Session> = (0..=size).map(|_| with_past(steps, &worn)).collect();
+        for _ in 0..4 {
+            totals.hand_row(&mut list, size, any_numbers(steps));
+        }
+    }
+}
+
 /// Patterns with bytes spoilt, with no slot or too many.
 fn patterns(totals: &mut Totals, steps: &mut Steps) {
     for n in 0..PATTERNS {
@@ -450,10 +526,12 @@ pub fn all() {
     damaged(&mut totals, &mut steps);
     deep(&mut totals, &mut steps);
     patterns(&mut totals, &mut steps);
+    rows(&mut totals, &mut steps);
     whole(&mut totals);
-    let Totals { inputs, matches, nones, refused, handed, verdicts, queries, replays } = totals;
+    let Totals { inputs, matches, nones, refused, handed, verdicts, queries, replays, rows, divided } = totals;
     let numbers: Vec<String> = (1..15).chain([17]).map(|k| format!("{k}: {}", refused[k])).collect();
     println!("Agreement: {inputs} inputs, (a) to (e) each as the independent implementation says: {matches} match, {nones} none,");
     println!("{} refused (by number, {}). (a) and (e) name the first list each time.", refused.iter().sum::<usize>(), numbers.join(", "));
-    println!("Sessions: {handed} events handed over, {verdicts} verdicts looked at; {queries} order queries. {replays} replays, byte by byte.\n");
+    println!("Sessions: {handed} events handed over, {verdicts} verdicts looked at; {queries} order queries. {replays} replays, byte by byte.");
+    println!("Rows of 0 to {} sessions: {rows} events, {divided} refused by some and taken by others; each as alone, byte by byte.\n", ROW + 1);
 }

@@ -1,8 +1,13 @@
-// Times a replay and an order query beside the run alone, on the inputs whose match is the last event: each group's pass then goes as far as it can.
-use crate::ffi;
+// Times what stands beside the run alone: a replay and an order query, and a row of sessions.
+use crate::contest;
+use crate::ffi::{self, Session};
 use crate::load::{self, Input};
 use crate::time::{thread_time, ROUNDS};
+use crate::verdict::{Outcome, EVENTS};
 use std::hint::black_box;
+
+/// How many patterns are looked for at once.
+const PATTERNS: usize = 12;
 
 /// The time of a call in ns an event.
 fn per_event<T>(input: &Input, call: impl FnOnce() -> T) -> f64 {
@@ -11,8 +16,9 @@ fn per_event<T>(input: &Input, call: impl FnOnce() -> T) -> f64 {
     (thread_time() - start) as f64 / input.events as f64
 }
 
-/// The least time of each in ns an event, the three in turns, as Markdown. The query is about the first event and the last.
-pub fn print() {
+/// The least time of each in ns an event, the three in turns, as Markdown, on the inputs whose match is the last event: each group's pass then
+/// goes as far as it can. The query is about the first event and the last.
+fn replays_and_queries() {
     println!("\n| load | slots | match | run | replay | replay to run | query | query to run |\n|---|---|---|---|---|---|---|---|");
     for input in load::inputs().iter().filter(|input| input.ending == "late") {
         let (pattern, log) = (&input.pattern[..], &input.log[..]);
@@ -28,4 +34,72 @@ pub fn print() {
         let (load, slots, ending) = (input.load, input.slots, input.ending);
         println!("| {load} | {slots} | {ending} | {run:.1} | {replay:.1} | {:.2} | {query:.1} | {:.2} |", replay / run, query / run);
     }
+}
+
+/// The input's pattern of three slots, and the same with other objects of the load in the first two; the last slot, which decides whether
+/// there is a match, stays.
+fn patterns(input: &Input) -> Vec<Vec<u8>> {
+    let mut patterns = vec![input.pattern.clone(); PATTERNS];
+    for (pattern, k) in patterns.iter_mut().zip(0..) {
+        pattern[2] = (pattern[2] + k) % 8;
+        pattern[5] = (pattern[5] + k / 4) % 8;
+    }
+    patterns
+}
+
+/// A session on each pattern, and what they have found once `hand` has handed every event of the log to all of them.
+#[inline(always)]
+fn by_sessions(patterns: &[Vec<u8>], log: &[u8], hand: impl Fn(&mut [Session], ffi::Event) -> u8) -> Vec<Outcome> {
+    let mut row: Vec<Session> = patterns.iter().map(|pattern| Session::open(pattern).0).collect();
+    let end = contest::each_event(log, |event| hand(&mut row, event));
+    assert_eq!(end, Ok(()), "an event is refused");
+    row.iter().map(|session| session.verdict().outcome).collect()
+}
+
+/// One call an event.
+#[inline(never)]
+fn by_row(patterns: &[Vec<u8>], log: &[u8]) -> Vec<Outcome> {
+    by_sessions(patterns, log, |row, event| ffi::take_all(row, event).number)
+}
+
+/// One call an event and session.
+#[inline(never)]
+fn by_takes(patterns: &[Vec<u8>], log: &[u8]) -> Vec<Outcome> {
+    by_sessions(patterns, log, |row, event| row.iter_mut().fold(0, |number, session| number | session.take(event)))
+}
+
+/// One call a pattern.
+#[inline(never)]
+fn by_runs(patterns: &[Vec<u8>], log: &[u8]) -> Vec<Outcome> {
+    patterns.iter().map(|pattern| ffi::run(pattern, log).outcome).collect()
+}
+
+fn by_one_run(patterns: &[Vec<u8>], log: &[u8]) -> Vec<Outcome> {
+    by_runs(&patterns[..1], log)
+}
+
+/// The least time of each in ns an event, the four in turns, as Markdown. Each time all must find the same.
+fn rows() {
+    println!("\n| load | patterns | slots | match | row | takes | runs | one run | row to takes | row to runs | row to one run |");
+    println!("|---|---|---|---|---|---|---|---|---|---|---|");
+    for ending in load::ENDINGS {
+        let input = load::input("Note 11", 3, ending, EVENTS);
+        let patterns = patterns(&input);
+        let found = by_runs(&patterns, &input.log);
+        let mut least = [f64::MAX; 4];
+        for _ in 0..ROUNDS {
+            for (least, call) in least.iter_mut().zip([by_row, by_takes, by_runs, by_one_run]) {
+                let call = || call(black_box(&patterns), black_box(&input.log));
+                *least = least.min(per_event(&input, || assert!(found.starts_with(&call()))));
+            }
+        }
+        let [row, takes, runs, one] = least;
+        print!("| Note 11 | {PATTERNS} | 3 | {ending} | {row:.1} | {takes:.1} | {runs:.1} | {one:.1} ");
+        println!("| {:.2} | {:.2} | {:.2} |", row / takes, row / runs, row / one);
+    }
+}
+
+pub fn print() {
+    replays_and_queries();
+    rows();
 }

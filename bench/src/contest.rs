@@ -1,6 +1,6 @@
 // The five that are compared, each from a pattern and a log as bytes to an outcome.
 use crate::decode::{self, Operation, Step};
-use crate::ffi::{self, Session};
+use crate::ffi::{self, Event, Session};
 use crate::greedy;
 use crate::patterntrack;
 use crate::verdict::{Outcome, Refusal};
@@ -37,27 +37,37 @@ fn numbers(operation: Operation) -> (u8, u16, i32) {
     }
 }
 
-/// (d) The proved session: each command is taken apart by its form here, and handed to the session as one event.
+/// Takes each command of a log apart by its form and hands it over as one event; stops at the first that is refused, by its form or when
+/// it is handed over.
+#[inline(always)]
+pub fn each_event(log: &[u8], mut hand: impl FnMut(Event) -> u8) -> Result<(), Refusal> {
+    let mut at = 0;
+    loop {
+        match decode::command_at(log, at) {
+            Step::Command { event, next } => {
+                let (operation, object, height) = numbers(event.operation);
+                let number = hand(Event::new(event.thread, operation, object, height));
+                if number != 0 {
+                    return Err(Refusal { number, offset: at });
+                }
+                at = next;
+            }
+            Step::End => return Ok(()),
+            Step::Refused(refusal) => return Err(refusal),
+        }
+    }
+}
+
+/// (d) The proved session, which is handed one event at a time.
 #[inline(never)]
 fn by_session(pattern: &[u8], log: &[u8]) -> Outcome {
     let (mut session, answer) = Session::open(pattern);
     if let Err(refusal) = answer {
         return Outcome::PatternRefused(refusal);
     }
-    let mut at = 0;
-    loop {
-        match decode::command_at(log, at) {
-            Step::Command { event, next } => {
-                let (operation, object, height) = numbers(event.operation);
-                let number = session.take(event.thread, operation, object, height);
-                if number != 0 {
-                    return Outcome::LogRefused(Refusal { number, offset: at });
-                }
-                at = next;
-            }
-            Step::End => return session.verdict().outcome,
-            Step::Refused(refusal) => return Outcome::LogRefused(refusal),
-        }
+    match each_event(log, |event| session.take(event)) {
+        Ok(()) => session.verdict().outcome,
+        Err(refusal) => Outcome::LogRefused(refusal),
     }
 }
 

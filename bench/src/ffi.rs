@@ -29,7 +29,38 @@ struct Answer {
     offset: usize,
 }
 
-/// A session as the library lays it out.
+/// An event in numbers, whatever they are.
+#[repr(C)]
+#[derive(Clone, Copy, Debug)]
+pub struct Event {
+    pub thread: u32,
+    pub operation: u32,
+    pub object: u32,
+    pub height: i32,
+}
+
+impl Event {
+    /// Of numbers as wide as those of a log.
+    #[inline(always)]
+    pub fn new(thread: u8, operation: u8, object: u16, height: i32) -> Event {
+        Event { thread: thread as u32, operation: operation as u32, object: object as u32, height }
+    }
+}
+
+/// The most sessions that a row has.
+pub const ROW: usize = 16;
+
+/// What became of an event in a row: how many sessions refused it, the lowest place, from 1, that did, and the number of its refusal.
+#[repr(C)]
+#[derive(PartialEq, Eq, Debug)]
+pub struct RowReport {
+    pub number: u8,
+    pub offset: usize,
+    pub count: usize,
+    pub place: usize,
+}
+
+/// A session as the library lays it out. No byte of it is padding, so that two are equal where their bytes are.
 #[repr(C)]
 #[derive(Clone, PartialEq, Eq)]
 pub struct Session {
@@ -51,6 +82,7 @@ struct Opening {
 }
 
 const _: () = assert!(size_of::<Session>() == 2500 && size_of::<Opening>() == 2528);
+const _: () = assert!(size_of::<Event>() == 16 && size_of::<RowReport>() == 32);
 
 extern "C" {
     fn bilguzor_run(pattern: *const u8, pattern_size: usize, log: *const u8, log_size: usize) -> Judgement;
@@ -77,6 +109,7 @@ extern "C" {
         object: u32,
         height: i32,
     ) -> Answer;
+    fn bilguzor_take_all(row: *mut Session, row_size: usize, event: Event) -> RowReport;
     fn bilguzor_verdict(size: u32, table: *const u16, count: u16) -> Judgement;
 }
 
@@ -118,6 +151,13 @@ pub fn order(log: &[u8], first: usize, second: usize) -> Result<Relation, Refusa
     }
 }
 
+/// Hands over one event to each session of a row.
+#[inline(always)]
+pub fn take_all(row: &mut [Session], event: Event) -> RowReport {
+    // Safe: the slice is lent for the call with its length, and its sessions came from openings.
+    unsafe { bilguzor_take_all(row.as_mut_ptr(), row.len(), event) }
+}
+
 impl Session {
     /// A session on the pattern, on the lone slot where it is refused; how many slots it has, or the refusal.
     pub fn open(pattern: &[u8]) -> (Session, Result<usize, Refusal>) {
@@ -130,7 +170,7 @@ impl Session {
 
     /// Hands over one event: 0 where it is taken, else the number of its refusal.
     #[inline(always)]
-    pub fn take(&mut self, thread: u8, operation: u8, object: u16, height: i32) -> u8 {
+    pub fn take(&mut self, event: Event) -> u8 {
         // Safe: the parts are arrays of the sizes that the library was compiled with, no two overlap, and they came from an opening.
         let answer = unsafe {
             bilguzor_take(
@@ -141,10 +181,10 @@ impl Session {
                 &mut self.taken,
                 &mut self.count,
                 self.state.as_mut_ptr(),
-                thread as u32,
-                operation as u32,
-                object as u32,
-                height,
+                event.thread,
+                event.operation,
+                event.object,
+                event.height,
             )
         };
         answer.number

@@ -1,8 +1,9 @@
 // Compares the proved run with a port of PATTERNTRACK, with decoding alone, with a session and with its own algorithm in unproved Rust, on
 // the same inputs in one process.
 //
-// With no word: agreement, the table, the goals, replays and order queries beside runs, the plot (to the file that BENCH_PLOT names, else growth.svg).
-// `agree`: agreement alone. `beside`: replays and order queries beside runs alone. `once WHO LOAD SLOTS ENDING`: one call, for a tool that counts instructions.
+// With no word: agreement, the table, the goals, what is timed beside runs, the plot (to the file that BENCH_PLOT names, else growth.svg).
+// `agree`: agreement alone. `beside`: replays, order queries and rows of sessions beside runs alone. `once WHO LOAD SLOTS ENDING`: one call, for a
+// tool that counts instructions.
 mod agree;
 mod beside;
 mod clocks;

@@ -1,5 +1,6 @@
-/* A session that is handed its events one by one, runs over whole logs, a replay, and order queries, through libbilguzor.a. */
+/* A session that is handed its events one by one, rows of sessions, runs over whole logs, a replay, and order queries, through libbilguzor.a. */
 #include <stdio.h>
+#include <string.h>
 
 #include "bilguzor.h"
 
@@ -85,6 +86,56 @@ static void locks(void)
     hand(&session, 1, BILGUZOR_ACQUIRE, 2, 0);
 }
 
+/* Hands one event to a row, and by itself to a copy of each session, which must end with the same bytes; too long a row must stay as it was. */
+static void hand_row(bilguzor_session *row, size_t size, bilguzor_event e)
+{
+    static bilguzor_session copies[BILGUZOR_ROW + 1];
+    int fits = size <= BILGUZOR_ROW;
+    memcpy(copies, row, size * sizeof *row);
+    bilguzor_row_report r = bilguzor_take_all(row, size, e);
+    for (size_t i = 0; fits && i < size; i++) {
+        bilguzor_session_take(&copies[i], e.thread, e.operation, e.object, e.height);
+    }
+    const char *bytes = memcmp(copies, row, size * sizeof *row) == 0 ? "each session" : "NOT each session";
+    printf("row of %zu, thread %u operation %u object %u: ", size, (unsigned)e.thread, (unsigned)e.operation, (unsigned)e.object);
+    printf("number %u at %zu, %zu refused, lowest place %zu, ", r.number, r.offset, r.count, r.place);
+    printf("%s as %s\n", bytes, fits ? "alone" : "it was");
+}
+
+static const bilguzor_event mark_3 = { 2, BILGUZOR_MARK, 3, 0 };
+static const bilguzor_event no_operation = { 2, 0, 3, 0 };
+static const bilguzor_event lock_5 = { 2, BILGUZOR_ACQUIRE, 5, 0 };
+
+/* Place 16 is full; then thread 1 holds lock 5 at place 8; then thread 2 is joined at place 1. */
+static void row_refusals(bilguzor_session *row)
+{
+    while (bilguzor_session_take(&row[15], 0, BILGUZOR_MARK, 0, 0).number == 0) {
+    }
+    hand_row(row, BILGUZOR_ROW, mark_3);
+    bilguzor_session_take(&row[7], 1, BILGUZOR_ACQUIRE, 5, 0);
+    hand_row(row, BILGUZOR_ROW, lock_5);
+    bilguzor_session_take(&row[0], 1, BILGUZOR_JOIN, 2, 0);
+    hand_row(row, BILGUZOR_ROW, lock_5);
+}
+
+/* The session of each place looks for thread 2's mark of that number. */
+static void rows(void)
+{
+    static const size_t sizes[] = { 0, 1, BILGUZOR_ROW, BILGUZOR_ROW + 1 };
+    static bilguzor_session row[BILGUZOR_ROW + 1];
+    for (uint8_t place = 1; place <= BILGUZOR_ROW + 1; place++) {
+        const uint8_t pattern[] = { 7, 2, place, 0, 0 };
+        row[place - 1] = bilguzor_open(pattern, sizeof pattern).session;
+    }
+    for (size_t i = 0; i < sizeof sizes / sizeof *sizes; i++) {
+        hand_row(row, sizes[i], mark_3);
+        hand_row(row, sizes[i], no_operation);
+    }
+    row_refusals(row);
+    print_judgement("place 2", bilguzor_session_verdict(&row[1]));
+    print_judgement("place 3", bilguzor_session_verdict(&row[2]));
+}
+
 /* thread 1 mark 11; thread 0 writes variable 0, height -400 mm */
 static const uint8_t sign_log[] = { 7, 1, 11, 0, 2, 0, 0, 0x70, 0xFE, 0xFF, 0xFF, 0 };
 
@@ -136,6 +187,7 @@ int main(void)
     printf("version %u%s\n", (unsigned)bilguzor_version(), bilguzor_version() == BILGUZOR_VERSION ? "" : ", which is not the header's");
     sessions();
     locks();
+    rows();
     runs();
     replays();
     orders();

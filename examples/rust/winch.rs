@@ -1,4 +1,4 @@
-// A session that is handed its events one by one, runs over whole logs, a replay, and order queries, through libbilguzor.a.
+// A session that is handed its events one by one, rows of sessions, runs over whole logs, a replay, and order queries, through libbilguzor.a.
 // `bilguzor.h` says what each function answers; the declarations below are the same.
 #[repr(C)]
 struct Judgement {
@@ -29,6 +29,25 @@ struct Answer {
 }
 
 #[repr(C)]
+#[derive(Clone, Copy)]
+struct Event {
+    thread: u32,
+    operation: u32,
+    object: u32,
+    height: i32,
+}
+
+#[repr(C)]
+struct RowReport {
+    number: u8,
+    offset: usize,
+    count: usize,
+    place: usize,
+}
+
+// No byte of it is padding, so that two are equal where their bytes are.
+#[repr(C)]
+#[derive(Clone, PartialEq)]
 struct Session {
     slots: [u32; 5],
     size: u32,
@@ -52,6 +71,8 @@ const _: () = assert!(std::mem::size_of::<Judgement>() == 32);
 const _: () = assert!(std::mem::size_of::<Replayed>() == 40);
 const _: () = assert!(std::mem::size_of::<Ordering>() == 16);
 const _: () = assert!(std::mem::size_of::<Answer>() == 16);
+const _: () = assert!(std::mem::size_of::<Event>() == 16);
+const _: () = assert!(std::mem::size_of::<RowReport>() == 32);
 const _: () = assert!(std::mem::size_of::<Session>() == 2500);
 const _: () = assert!(std::mem::size_of::<Opening>() == 2528);
 
@@ -80,11 +101,15 @@ extern "C" {
         object: u32,
         height: i32,
     ) -> Answer;
+    fn bilguzor_take_all(row: *mut Session, row_size: usize, event: Event) -> RowReport;
     fn bilguzor_verdict(size: u32, table: &[u16; 512], count: u16) -> Judgement;
     fn bilguzor_version() -> u32;
 }
 
 const VERSION: u32 = 5;
+
+// The most sessions that a row has.
+const ROW: usize = 16;
 
 const NO: u8 = 0;
 const YES: u8 = 1;
@@ -98,6 +123,7 @@ const FREE: u8 = 8;
 const WRITE: u32 = 2;
 const ACQUIRE: u32 = 3;
 const RELEASE: u32 = 4;
+const JOIN: u32 = 6;
 const MARK: u32 = 7;
 
 // A slice's pointer is never null, so each call below is within what the header asks.
@@ -115,6 +141,10 @@ fn order(log: &[u8], first: usize, second: usize) -> Ordering {
 
 fn open(pattern: &[u8]) -> Opening {
     unsafe { bilguzor_open(pattern.as_ptr(), pattern.len()) }
+}
+
+fn take_all(row: &mut [Session], event: Event) -> RowReport {
+    unsafe { bilguzor_take_all(row.as_mut_ptr(), row.len(), event) }
 }
 
 impl Session {
@@ -217,6 +247,46 @@ fn locks() {
     hand(&mut session, 1, ACQUIRE, 2, 0);
 }
 
+// Hands one event to a row, and by itself to a copy of each session, which must end with the same bytes; too long a row must stay as it was.
+fn hand_row(row: &mut [Session], e: Event) {
+    let mut copies = row.to_vec();
+    let fits = row.len() <= ROW;
+    let r = take_all(row, e);
+    for session in copies.iter_mut().filter(|_| fits) {
+        session.take(e.thread, e.operation, e.object, e.height);
+    }
+    let bytes = if row == copies { "each session" } else { "NOT each session" };
+    print!("row of {}, thread {} operation {} object {}: ", row.len(), e.thread, e.operation, e.object);
+    print!("number {} at {}, {} refused, lowest place {}, ", r.number, r.offset, r.count, r.place);
+    println!("{bytes} as {}", if fits { "alone" } else { "it was" });
+}
+
+const MARK_3: Event = Event { thread: 2, operation: MARK, object: 3, height: 0 };
+const NO_OPERATION: Event = Event { thread: 2, operation: 0, object: 3, height: 0 };
+const LOCK_5: Event = Event { thread: 2, operation: ACQUIRE, object: 5, height: 0 };
+
+// Place 16 is full; then thread 1 holds lock 5 at place 8; then thread 2 is joined at place 1.
+fn row_refusals(row: &mut [Session]) {
+    while row[15].take(0, MARK, 0, 0).number == 0 {}
+    hand_row(row, MARK_3);
+    row[7].take(1, ACQUIRE, 5, 0);
+    hand_row(row, LOCK_5);
+    row[0].take(1, JOIN, 2, 0);
+    hand_row(row, LOCK_5);
+}
+
+// The session of each place looks for thread 2's mark of that number.
+fn rows() {
+    let mut row: Vec<Session> = (1..=ROW as u8 + 1).map(|place| open(&[7, 2, place, 0, 0]).session).collect();
+    for size in [0, 1, ROW, ROW + 1] {
+        hand_row(&mut row[..size], MARK_3);
+        hand_row(&mut row[..size], NO_OPERATION);
+    }
+    row_refusals(&mut row[..ROW]);
+    print_judgement("place 2", &row[1].verdict());
+    print_judgement("place 3", &row[2].verdict());
+}
+
 // thread 1 mark 11; thread 0 writes variable 0, height -400 mm
 const SIGN_LOG: [u8; 12] = [7, 1, 11, 0, 2, 0, 0, 0x70, 0xFE, 0xFF, 0xFF, 0];
 
@@ -263,6 +333,7 @@ fn main() {
     println!("version {version}{}", if version == VERSION { "" } else { ", which is not the header's" });
     sessions();
     locks();
+    rows();
     runs();
     replays();
     orders();

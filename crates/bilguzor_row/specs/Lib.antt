@@ -1,0 +1,2 @@
+-- A row of sessions in parts, in numbers.
+pub mod Rows
