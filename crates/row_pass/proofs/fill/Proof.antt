@@ -46,7 +46,7 @@ loop-again c =
     let below = c .before .before .before .before .before .loop-test .taken in
     let inv = l .inv in (
       omega (arith, below),
-      length-set (l .events) (l .k) _ ∙ inv .1,
+      length-set (l .events) _ _ ∙ inv .1,
       λ past h n.
           let r = inv .2 past h n in
           next-event (inv .0) (inv .1) r below (ap steppedIs (c .before .found .given .1)) (made (inv .0) (inv .1) r _ n (c .before .before .before .step .ensures .1 .1)),
