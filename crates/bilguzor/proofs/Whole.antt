@@ -15,7 +15,7 @@ use Rattle.event.specs.declared.Event.{Event}
 use Rattle.event.specs.declared.Slot.{Slot}
 use Rattle.event.specs.Slots.{byteOf, objectOf, withoutHeight}
 use Rattle.event.proofs.Tests.{by-test}
-use Rattle.rules.specs.Accepted.{refusalAfter, takenAfter, AcceptedAfter, one-more, Accepted}
+use Rattle.rules.specs.Accepted.{refusalAfter, takenUnder, AcceptedAfter, one-more, Accepted}
 use Rattle.command.specs.Bytes.{Bytes}
 use Rattle.command.specs.Reading.{operationOf}
 use Rattle.session.specs.Answers.{Refused, nothing, Given}
@@ -75,7 +75,7 @@ event-back e = ap (λ op. record { thread = e .thread; operation = op }) (back (
 
 -- numbers that are not refused are taken, at the end
 taken-with : (es : List Event) (n : Numbers) → refusalOf (reverse es) n ≡ 0 → takenWith es n ≡ es ++ (eventFrom n ∷ [])
-unfolding refusalOf takenWith takenAfter
+unfolding refusalOf takenWith takenUnder
 taken-with es n z =
     by-test (noOperation (n .operation))
     (λ q. let three : 3 ≡ 0 = rw q at z in absurd (let f : ⊥ = omega arith in f))

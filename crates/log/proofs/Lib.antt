@@ -8,3 +8,4 @@ pub mod PatternRoundTrip
 pub mod Writes
 pub mod Numbering
 pub mod Leading
+pub mod Limits

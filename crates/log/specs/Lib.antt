@@ -3,3 +3,4 @@ pub mod Step
 pub mod Calls
 pub mod Leading
 pub mod Number
+pub mod Naming

@@ -8,7 +8,7 @@ use lib.ListN.{length, replicate}
 use borrow.Author.Tests.{eq-eqb}
 use Rattle.event.specs.declared.Event.{Event}
 use Rattle.event.specs.declared.Slot.{Slot}
-use Rattle.rules.specs.Accepted.{Accepted, AcceptedAfter, one-more, refusalAfter, takenAfter, takenFrom}
+use Rattle.rules.specs.Accepted.{Accepted, AcceptedAfter, one-more, refusalAfter, takenAfter, takenUnder, takenFrom, takenFromUnder}
 use Rattle.rules.proofs.AcceptedLists.{all-taken}
 use Rattle.command.specs.Bytes.{Bytes}
 use Rattle.log.specs.Whole.{Heights, accepted, logBytes, readLog, readPattern}
@@ -24,14 +24,14 @@ use Rattle.session.specs.declared.Opened.{Opened}
 use Rattle.session.specs.Answers.{refusal, Refusal, Refused, nothing, Ruling, Given}
 use Rattle.session.specs.Model.{slotsUsed, handed, handedAll}
 use Rattle.session.specs.Meaning.{takenBy, Describes, VerdictOf, OpenedOn, RunOn, log-refused, judged, RunOf, pattern-refused, over-log}
-use Rattle.session.specs.History.{answers, refusals, takenOf, saidAfter, SameAnswer, EveryHistory, SameRun, EveryRun}
+use Rattle.session.specs.History.{answers, refusals, refusalsUnder, takenOf, saidAfter, SameAnswer, EveryHistory, SameRun, EveryRun}
 use Rattle.session.proofs.Described.{handed-described, verdict-described}
 
 -- ---- every list of events
 
 pub after-all : (ss : List Slot) (es : List Event) (s : Session) → Describes ss es s → (events : List Event)
     → (answers s events ≡ refusals (reverse es) events) × Describes ss (reverse (takenFrom (reverse es) events)) (handedAll s events)
-unfolding answers refusals takenFrom handedAll
+unfolding answers refusalsUnder takenFromUnder handedAll
 after-all ss es s h [] = (refl, rw (reverse-reverse es) h)
 after-all ss es s h (e ∷ events) =
     let one = handed-described ss es s h e in
@@ -50,7 +50,7 @@ same-verdict ss es fs h v w a b =
     (λ t. a .matches .1 (h .1 (b .matches .0 t)))
 
 no-refusal : {past : List Event} (es : List Event) → AcceptedAfter past es → refusals past es ≡ replicate (length es) (refusal 0 0)
-unfolding refusals takenAfter
+unfolding refusalsUnder takenUnder
 no-refusal [] a = refl
 no-refusal {past} (e ∷ es) (one-more z a) =
     rw (eq-eqb (refusalAfter past e) 0 z, z) (ap (λ (ns : List Refusal). refusal 0 0 ∷ ns) (no-refusal es a))

@@ -16,7 +16,7 @@ use Rattle.event.proofs.Filled.{map-at}
 use Rattle.event.proofs.OneSlot.{fits-thread}
 use Rattle.event.proofs.Tests.{by-test}
 use Rattle.event.proofs.InRange.{from-range}
-use Rattle.rules.specs.Accepted.{refusalAfter, takenAfter, Accepted, whole}
+use Rattle.rules.specs.Accepted.{refusalAfter, takenAfter, takenUnder, Accepted, whole}
 use Rattle.rules.specs.State as rules
 use Rattle.rules.proofs.StateLaws as ruleLaws
 use Rattle.rules.proofs.AcceptedLists.{taken-iff}
@@ -97,7 +97,7 @@ module _ (ss : List Slot) (es : List Event) (s : Session) (h : Describes ss es s
   room = let r : length (reverse es) < events = clear .room in let n : length (reverse es) ≡ length es = length-reverse es in omega arith
 
   state-after : rules.StateOf (reverse longer) (rules.stateAfter (s .state) (s .taken) e)
-  unfolding takenAfter
+  unfolding takenUnder
   state-after =
       let r = ruleLaws.handed-over (reverse es) (s .state) e (h .state) in
       let t : takenAfter (reverse es) e ≡ e ∷ reverse es = rw (eq-eqb (refusalAfter (reverse es) e) 0 z) in
@@ -192,7 +192,7 @@ module _ (ss : List Slot) (es : List Event) (s : Session) (h : Describes ss es s
 
 pub handed-described : (ss : List Slot) (es : List Event) (s : Session) → Describes ss es s → (e : Event)
     → (answerIs (handed s e .answer) ≡ refusal (refusalAfter (reverse es) e) 0) × Describes ss (takenBy es e) (handed s e .session)
-unfolding handed advanced keptAfter takenAfter
+unfolding handed advanced keptAfter takenUnder
 handed-described ss es s h e =
     rw (refusal-is ss es s h e)
     (by-test (eqb (refusalAfter (reverse es) e) 0)

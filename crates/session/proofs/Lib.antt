@@ -3,3 +3,4 @@ pub mod Steps
 pub mod Demand
 pub mod OneAnswer
 pub mod NoFit
+pub mod Limits

@@ -5,7 +5,8 @@ use mathlib.Core.List.{List, [], _∷_, reverse}
 use lib.ListN.{length, replicate}
 use Rattle.event.specs.declared.Event.{Event}
 use Rattle.event.specs.declared.Slot.{Slot}
-use Rattle.rules.specs.Accepted.{Accepted, refusalAfter, takenAfter, takenFrom}
+use Rattle.event.specs.Limits.{threads}
+use Rattle.rules.specs.Accepted.{Accepted, refusalUnder, takenUnder, takenFromUnder}
 use Rattle.log.specs.Whole.{Heights, accepted, logBytes, readLog, readPattern}
 use Rattle.dependence.specs.Order.{Reaches}
 use Rattle.session.specs.declared.Session.{Session}
@@ -19,14 +20,22 @@ unfoldable pub answers : Session → List Event → List Refusal
 answers s [] = []
 answers s (e ∷ es) = answerIs (handed s e .answer) ∷ answers (handed s e .session) es
 
+-- The limit of threads is a parameter, so that two limits can be compared; the names without it are the instances at `threads`.
+
 -- what the rules answer, by the events taken before, the newest first: "its offset is 0 for a session"
-unfoldable pub refusals : List Event → List Event → List Refusal
-refusals past [] = []
-refusals past (e ∷ es) = refusal (refusalAfter past e) 0 ∷ refusals (takenAfter past e) es
+unfoldable pub refusalsUnder : ℕ → List Event → List Event → List Refusal
+refusalsUnder limit past [] = []
+refusalsUnder limit past (e ∷ es) = refusal (refusalUnder limit past e) 0 ∷ refusalsUnder limit (takenUnder limit past e) es
+
+abbrev pub refusals : List Event → List Event → List Refusal
+refusals past events = refusalsUnder threads past events
 
 -- the events taken of a list, in order
+abbrev pub takenOfUnder : ℕ → List Event → List Event
+takenOfUnder limit events = reverse (takenFromUnder limit [] events)
+
 abbrev pub takenOf : List Event → List Event
-takenOf events = reverse (takenFrom [] events)
+takenOf events = takenOfUnder threads events
 
 -- what the session says once the events of a list have been handed over
 abbrev pub saidAfter : Session → List Event → Ruling

@@ -7,11 +7,11 @@ use mathlib.Core.List.{List, [], _++_, reverse}
 use lib.ListN.{length, getD, take, replicate}
 use Rattle.event.specs.declared.Event.{Event}
 use Rattle.event.specs.declared.Slot.{Slot}
-use Rattle.event.specs.Limits.{slots}
+use Rattle.event.specs.Limits.{threads, slots}
 use Rattle.event.specs.Slots.{fits}
 use Rattle.rules.specs.Accepted.{Accepted, takenAfter}
 use Rattle.rules.specs.State as rules
-use Rattle.log.specs.Whole.{GoodPattern, patternOf, accepted, refused, readLog, readPattern, outcomeOf, patternAnswerIs}
+use Rattle.log.specs.Whole.{GoodPattern, patternOf, accepted, refused, readLogUnder, readPattern, readPatternUnder, outcomeOf, patternAnswerIs}
 use Rattle.clock.specs.Arrivals as clock
 use Rattle.table.specs.Keeps.{Keeps}
 use Rattle.dependence.specs.Order.{HasMatch, IsCount, Named, IsFirst}
@@ -56,14 +56,23 @@ pub record OpenedOn (bytes : List ℕ) (r : Opened) : Type 0 where
 
 -- what a run over a log gives, its pattern accepted: "A refusal anywhere in the log wins over a match before it."
 -- "From now on a run names the first": "For runs the freedom in choosing slot events is gone."
-pub data RunOn (ss : List Slot) (bytes : List ℕ) : Given → Type 0 where
-  log-refused : {k o : ℕ} → readLog bytes ≡ refused k o → RunOn ss bytes (record { refused = log; refusal = refusal k o; ruling = noRuling })
-  judged : {es : List Event} {r : Ruling} → readLog bytes ≡ accepted es → VerdictOf ss es r
+-- The limit of threads is a parameter of what is read, so that two limits can be compared; the names without it are the instances at `threads`.
+pub data RunOnUnder (limit : ℕ) (ss : List Slot) (bytes : List ℕ) : Given → Type 0 where
+  log-refused : {k o : ℕ} → readLogUnder limit bytes ≡ refused k o
+      → RunOnUnder limit ss bytes (record { refused = log; refusal = refusal k o; ruling = noRuling })
+  judged : {es : List Event} {r : Ruling} → readLogUnder limit bytes ≡ accepted es → VerdictOf ss es r
       → (HasMatch ss es → IsFirst ss es (r .count) (take (length ss) (r .events)))
-      → RunOn ss bytes (record { refused = nothing; refusal = refusal 0 0; ruling = r })
+      → RunOnUnder limit ss bytes (record { refused = nothing; refusal = refusal 0 0; ruling = r })
+
+abbrev pub RunOn : List Slot → List ℕ → Given → Type 0
+RunOn ss bytes g = RunOnUnder threads ss bytes g
 
 -- "the pattern is read before the log"
-pub data RunOf (pattern bytes : List ℕ) : Given → Type 0 where
-  pattern-refused : {k o : ℕ} → readPattern pattern ≡ refused k o
-      → RunOf pattern bytes (record { refused = Refused.pattern; refusal = refusal k o; ruling = noRuling })
-  over-log : {ss : List Slot} {g : Given} → readPattern pattern ≡ accepted ss → RunOn ss bytes g → RunOf pattern bytes g
+pub data RunOfUnder (limit : ℕ) (pattern bytes : List ℕ) : Given → Type 0 where
+  pattern-refused : {k o : ℕ} → readPatternUnder limit pattern ≡ refused k o
+      → RunOfUnder limit pattern bytes (record { refused = Refused.pattern; refusal = refusal k o; ruling = noRuling })
+  over-log : {ss : List Slot} {g : Given} → readPatternUnder limit pattern ≡ accepted ss → RunOnUnder limit ss bytes g
+      → RunOfUnder limit pattern bytes g
+
+abbrev pub RunOf : List ℕ → List ℕ → Given → Type 0
+RunOf pattern bytes g = RunOfUnder threads pattern bytes g

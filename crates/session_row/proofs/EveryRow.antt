@@ -13,7 +13,7 @@ use Rattle.session.specs.declared.Opened.{Opened}
 use Rattle.session.specs.Answers.{Refusal}
 use Rattle.session.specs.Model.{slotsUsed, handedAll}
 use Rattle.session.specs.Meaning.{takenBy, Describes}
-use Rattle.session.specs.History.{refusals, EveryHistory}
+use Rattle.session.specs.History.{refusals, refusalsUnder, EveryHistory}
 use Rattle.session.proofs.Described.{handed-described}
 use Rattle.session.proofs.Demand.{every-history}
 use Rattle.trace.specs.Match.{Each, none, more}
@@ -93,11 +93,11 @@ abbrev rulesSay : List Event → List Event → List ℕ
 rulesSay es events = map (λ r. r .number) (refusals (reverse es) events)
 
 rules-nothing : (es : List Event) → [] ≡ rulesSay es []
-unfolding refusals
+unfolding refusalsUnder
 rules-nothing es = refl
 
 rules-more : (es : List Event) (e : Event) (events : List Event) → refusalAfter (reverse es) e ∷ rulesSay (takenBy es e) events ≡ rulesSay es (e ∷ events)
-unfolding refusals
+unfolding refusalsUnder
 rules-more es e events = rw (reverse-reverse (takenAfter (reverse es) e))
 
 -- Note 6: a row of at most sixteen sessions, each opened on its pattern, and every list of events
