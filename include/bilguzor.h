@@ -16,7 +16,7 @@
  *   06    join      thread 1, child thread 1
  *   07    mark      thread 1, mark 2
  *
- * Threads and children run 0 to 7, variables 0 to 31, locks 0 to 15, marks 0 to 65535. A pattern has 1 to 5 commands, a log 0 to 65535.
+ * Threads and children are below BILGUZOR_THREADS, variables below BILGUZOR_VARIABLES, locks below BILGUZOR_LOCKS; marks run 0 to 65535. A pattern has 1 to 5 commands, a log 0 to 65535.
  * Locks count: the holder may acquire again, and the lock is free once it has been released as often.
  *
  * Whatever is refused gets a number, and the offset of the first byte of the command concerned, in the pattern or in the log. The numbers stand
@@ -26,8 +26,8 @@
  *    2  pattern: a byte other than 00 after five commands; the offset of that byte
  *    3  command: a byte above 07; in bilguzor_take and bilguzor_take_all, an operation that is not 1 to 7
  *    4  command: an operand cut short; or no closing 00, and then the offset is the size
- *    5  command: thread above 7
- *    6  command: object above its limit
+ *    5  command: thread not below BILGUZOR_THREADS
+ *    6  command: variable, lock or child not below its limit
  *    7  command: fork or join of the acting thread itself
  *    8  a byte follows the closing 00; the offset of that byte
  *    9  event: 65535 events are already taken
@@ -55,17 +55,21 @@ extern "C" {
 #endif
 
 /* Raised whenever an answer or the layout of a session changes; bilguzor_version gives that of the library that is linked. */
-#define BILGUZOR_VERSION 5
+#define BILGUZOR_VERSION 6
 
+#define BILGUZOR_THREADS 16
+#define BILGUZOR_VARIABLES 32
+#define BILGUZOR_LOCKS 16
 #define BILGUZOR_SLOTS 5
 
 /* The most sessions that a row has. */
 #define BILGUZOR_ROW 16
 
-/* How many numbers each part of a session has. */
-#define BILGUZOR_CLOCKS_LENGTH 704
+/* How many numbers each part of a session has: clocks of each thread, of the reads and of the writes of each variable, and of each lock; the table; and
+ * of the rules one entry for each thread and two for each lock. */
+#define BILGUZOR_CLOCKS_LENGTH ((BILGUZOR_THREADS + 2 * BILGUZOR_VARIABLES + BILGUZOR_LOCKS) * BILGUZOR_THREADS)
 #define BILGUZOR_TABLE_LENGTH 512
-#define BILGUZOR_STATE_LENGTH 40
+#define BILGUZOR_STATE_LENGTH (BILGUZOR_THREADS + 2 * BILGUZOR_LOCKS)
 
 /* The byte of an event, as a session takes it. */
 enum bilguzor_operation {
@@ -136,7 +140,7 @@ typedef struct bilguzor_row_report {
     size_t place; /* the lowest place in the row, counted from 1, that refused; 0 without one and with 18 */
 } bilguzor_row_report;
 
-/* A session: 2500 bytes, none of them padding, which may be copied. It comes from bilguzor_open alone, and only bilguzor_session_take (or
+/* A session: 4172 bytes, none of them padding, which may be copied. It comes from bilguzor_open alone, and only bilguzor_session_take (or
  * bilguzor_take) and bilguzor_take_all change it. */
 typedef struct bilguzor_session {
     uint32_t slots[BILGUZOR_SLOTS]; /* for each slot its byte, 256 times its thread and 65536 times its object, added up */
@@ -148,7 +152,7 @@ typedef struct bilguzor_session {
     uint8_t state[BILGUZOR_STATE_LENGTH]; /* of each thread whether it acted or is joined, and who holds each lock, and how deep */
 } bilguzor_session;
 
-/* A session that was opened. 2528 bytes. */
+/* A session that was opened. 4200 bytes. */
 typedef struct bilguzor_opening {
     uint8_t number; /* 0: the pattern is accepted; else that of the refusal */
     size_t offset; /* of the refusal; 0 without one */
@@ -181,8 +185,8 @@ bilguzor_ordering bilguzor_order(const uint8_t *log, size_t log_size, size_t fir
 bilguzor_opening bilguzor_open(const uint8_t *pattern, size_t pattern_size);
 
 /* Hands one event to the session. `operation` is the byte of the event (enum bilguzor_operation), `object` its variable, lock, child or mark;
- * `height` counts for a write alone. Every number may be given: an operation other than 1 to 7 is refused with 3, then a thread above 7 with 5, an
- * object above its limit with 6, and so on. A refused event leaves the session as it was. */
+ * `height` counts for a write alone. Every number may be given: an operation other than 1 to 7 is refused with 3, then a thread not below
+ * BILGUZOR_THREADS with 5, an object not below its limit with 6, and so on. A refused event leaves the session as it was. */
 static inline bilguzor_answer bilguzor_session_take(
     bilguzor_session *session, uint32_t thread, uint32_t operation, uint32_t object, int32_t height);
 
@@ -192,7 +196,7 @@ static inline bilguzor_answer bilguzor_session_take(
  * all three are 0 where none did. A row of size 0 answers zeros, whatever the event; its pointer too must not be NULL.
  *
  * It is in libbilguzor_row.a, which is linked beside libbilguzor.a, and it saves no time: each session is copied from the row and back, one that refuses
- * too. A loop over bilguzor_session_take does the same to each session, and with 12 patterns of three slots it was measured to be 9 times as fast. */
+ * too. A loop over bilguzor_session_take does the same to each session, and with 12 patterns of three slots it was measured to be 14 times as fast. */
 bilguzor_row_report bilguzor_take_all(bilguzor_session *row, size_t row_size, bilguzor_event event);
 
 /* What the session has found in the events taken so far: BILGUZOR_YES or BILGUZOR_NO; it refuses nothing. */
@@ -239,7 +243,7 @@ BILGUZOR_ASSERT_SIZE(bilguzor_ordering, 16);
 BILGUZOR_ASSERT_SIZE(bilguzor_answer, 16);
 BILGUZOR_ASSERT_SIZE(bilguzor_event, 16);
 BILGUZOR_ASSERT_SIZE(bilguzor_row_report, 32);
-BILGUZOR_ASSERT_SIZE(bilguzor_session, 2500);
-BILGUZOR_ASSERT_SIZE(bilguzor_opening, 2528);
+BILGUZOR_ASSERT_SIZE(bilguzor_session, 4172);
+BILGUZOR_ASSERT_SIZE(bilguzor_opening, 4200);
 
 #endif

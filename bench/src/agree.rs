@@ -4,7 +4,7 @@ use crate::ffi::{self, RowReport, Session, ROW};
 use crate::greedy;
 use crate::load::{self, Bytes, Steps};
 use crate::reference::{self, Event, Label, Past};
-use crate::verdict::{found, Judged, Outcome, Refusal, Relation, EVENTS, SLOTS};
+use crate::verdict::{found, Judged, Outcome, Refusal, Relation, EVENTS, SLOTS, THREADS};
 
 /// How many inputs of each kind.
 const SHORT: usize = 16000;
@@ -284,7 +284,7 @@ fn event(steps: &mut Steps, threads: u32) -> Event {
     let thread = steps.below(threads) as u8;
     let op = [1, 2, 1, 2, 3, 4, 7, 7, 7, 7, 5, 6][steps.below(12) as usize];
     let object = match op {
-        5 | 6 => steps.below(8) as u16,
+        5 | 6 => steps.below(THREADS as u32) as u16,
         _ => steps.below(2) as u16,
     };
     Event { label: Label { op, thread, object }, height: steps.next() as i32 }
@@ -380,7 +380,7 @@ fn short(totals: &mut Totals, steps: &mut Steps) {
 fn longer(totals: &mut Totals, steps: &mut Steps, inputs: usize, least: u32, most: u32) {
     for _ in 0..inputs {
         let size = (least + steps.below(most - least)) as usize;
-        let threads = 2 + steps.below(7);
+        let threads = 2 + steps.below(THREADS as u32 - 1);
         let list = good(steps, threads, size);
         let tail = &list[size - 1 - steps.below(size as u32) as usize..];
         let pattern = pattern_for(steps, tail);

@@ -8,7 +8,7 @@ pub type Clock = [u16; THREADS];
 
 /// The newest clocks, from which that of the next event is made.
 pub struct Clocks {
-    threads: [Clock; 8],
+    threads: [Clock; THREADS],
     reads: [Clock; 32],
     writes: [Clock; 32],
     locks: [Clock; 16],
@@ -23,7 +23,7 @@ pub fn join(a: &mut Clock, b: &Clock) {
 
 impl Clocks {
     pub fn new() -> Clocks {
-        Clocks { threads: [[0; THREADS]; 8], reads: [[0; THREADS]; 32], writes: [[0; THREADS]; 32], locks: [[0; THREADS]; 16] }
+        Clocks { threads: [[0; THREADS]; THREADS], reads: [[0; THREADS]; 32], writes: [[0; THREADS]; 32], locks: [[0; THREADS]; 16] }
     }
 
     /// The clock of the next event.

@@ -1,5 +1,5 @@
 // The functions of the proved static library, declared as its C header has them, with one safe wrapper each.
-use crate::verdict::{found, Judged, Outcome, Refusal, Relation, SLOTS};
+use crate::verdict::{found, Judged, Outcome, Refusal, Relation, SLOTS, THREADS};
 
 #[repr(C)]
 struct Judgement {
@@ -47,6 +47,13 @@ impl Event {
     }
 }
 
+/// How many numbers the parts of a session have that grow with the threads: clocks of each thread, of the reads and writes of each variable, and of each
+/// lock; of the rules an entry for each thread, and two for each lock.
+const VARIABLES: usize = 32;
+const LOCKS: usize = 16;
+const CLOCKS: usize = (THREADS + 2 * VARIABLES + LOCKS) * THREADS;
+const STATE: usize = THREADS + 2 * LOCKS;
+
 /// The most sessions that a row has.
 pub const ROW: usize = 16;
 
@@ -66,11 +73,11 @@ pub struct RowReport {
 pub struct Session {
     slots: [u32; SLOTS],
     size: u32,
-    clocks: [u16; 704],
+    clocks: [u16; CLOCKS],
     table: [u16; 512],
     taken: u16,
     count: u16,
-    state: [u8; 40],
+    state: [u8; STATE],
 }
 
 #[repr(C)]
@@ -81,7 +88,7 @@ struct Opening {
     session: Session,
 }
 
-const _: () = assert!(size_of::<Session>() == 2500 && size_of::<Opening>() == 2528);
+const _: () = assert!(size_of::<Session>() == 4172 && size_of::<Opening>() == 4200);
 const _: () = assert!(size_of::<Event>() == 16 && size_of::<RowReport>() == 32);
 
 extern "C" {

@@ -179,7 +179,7 @@ fn mostly_unfit(slots: &[usize], count: usize) -> Bytes {
     log
 }
 
-/// Eight threads under the rules: threads 4 to 7 are forked by 0 one after another, 5 to 7 are joined near the end, locks are held for a
+/// A crew of eight under the rules: threads 4 to 7 are forked by 0 one after another, 5 to 7 are joined near the end, locks are held for a
 /// few events.
 struct Crew {
     steps: Steps,

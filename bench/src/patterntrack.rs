@@ -1,6 +1,6 @@
 // A port of PATTERNTRACK (source document 001, algorithms 3 and 4): one greatest partial tuple per permutation of a subset of the slots.
 //
-// What was done to make it fast: nothing is allocated per event; a clock is eight 16-bit counts, so that joins and comparisons are single
+// What was done to make it fast: nothing is allocated per event; a clock is a 16-bit count per thread, so that joins and comparisons are of whole
 // vectors; a clock is kept per thread, variable and lock instead of per label, as the dependent labels share it; which permutations end in
 // which label is worked out once per pattern; tuples lie in arrays by length, so that their copies have fixed sizes; the test of a tuple
 // stops at the first event that comes before the new one; a full permutation is tested and never stored; once there is a match only the
@@ -44,7 +44,7 @@ struct Tracker {
     four: Level<4>,
 }
 
-/// Whether the event of clock `a` comes before or is that of clock `b`. Every lane is compared, so that the clock stays one vector.
+/// Whether the event of clock `a` comes before or is that of clock `b`. Every lane is compared, so that the clock stays whole vectors.
 #[inline(always)]
 fn below(a: &Clock, b: &Clock) -> bool {
     let mut over = 0;

@@ -61,7 +61,7 @@ static void sessions(void)
     bilguzor_session session = open_session("four marks", marks, sizeof marks);
     hand(&session, 1, BILGUZOR_MARK, 10, 0);
     hand(&session, 1, BILGUZOR_MARK, 11, 0);
-    hand(&session, 8, BILGUZOR_MARK, 20, 0);
+    hand(&session, BILGUZOR_THREADS, BILGUZOR_MARK, 20, 0);
     hand(&session, 0, 0, 20, 0);
     hand(&session, 0, BILGUZOR_MARK, 65536, 0);
     hand(&session, 0, BILGUZOR_WRITE, 32, -400);

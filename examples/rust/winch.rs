@@ -45,17 +45,25 @@ struct RowReport {
     place: usize,
 }
 
+// The limits of threads, variables and locks, and with them how many numbers the parts of a session have.
+const THREADS: usize = 16;
+const VARIABLES: usize = 32;
+const LOCKS: usize = 16;
+const CLOCKS: usize = (THREADS + 2 * VARIABLES + LOCKS) * THREADS;
+const STATE: usize = THREADS + 2 * LOCKS;
+const TABLE: usize = 512;
+
 // No byte of it is padding, so that two are equal where their bytes are.
 #[repr(C)]
 #[derive(Clone, PartialEq)]
 struct Session {
     slots: [u32; 5],
     size: u32,
-    clocks: [u16; 704],
-    table: [u16; 512],
+    clocks: [u16; CLOCKS],
+    table: [u16; TABLE],
     taken: u16,
     count: u16,
-    state: [u8; 40],
+    state: [u8; STATE],
 }
 
 #[repr(C)]
@@ -73,8 +81,8 @@ const _: () = assert!(std::mem::size_of::<Ordering>() == 16);
 const _: () = assert!(std::mem::size_of::<Answer>() == 16);
 const _: () = assert!(std::mem::size_of::<Event>() == 16);
 const _: () = assert!(std::mem::size_of::<RowReport>() == 32);
-const _: () = assert!(std::mem::size_of::<Session>() == 2500);
-const _: () = assert!(std::mem::size_of::<Opening>() == 2528);
+const _: () = assert!(std::mem::size_of::<Session>() == 4172);
+const _: () = assert!(std::mem::size_of::<Opening>() == 4200);
 
 extern "C" {
     fn bilguzor_run(pattern: *const u8, pattern_size: usize, log: *const u8, log_size: usize) -> Judgement;
@@ -91,22 +99,22 @@ extern "C" {
     fn bilguzor_take(
         slots: &[u32; 5],
         size: u32,
-        clocks: &mut [u16; 704],
-        table: &mut [u16; 512],
+        clocks: &mut [u16; CLOCKS],
+        table: &mut [u16; TABLE],
         taken: &mut u16,
         count: &mut u16,
-        state: &mut [u8; 40],
+        state: &mut [u8; STATE],
         thread: u32,
         operation: u32,
         object: u32,
         height: i32,
     ) -> Answer;
     fn bilguzor_take_all(row: *mut Session, row_size: usize, event: Event) -> RowReport;
-    fn bilguzor_verdict(size: u32, table: &[u16; 512], count: u16) -> Judgement;
+    fn bilguzor_verdict(size: u32, table: &[u16; TABLE], count: u16) -> Judgement;
     fn bilguzor_version() -> u32;
 }
 
-const VERSION: u32 = 5;
+const VERSION: u32 = 6;
 
 // The most sessions that a row has.
 const ROW: usize = 16;
@@ -224,7 +232,7 @@ fn sessions() {
     let mut session = open_session("four marks", &marks);
     hand(&mut session, 1, MARK, 10, 0);
     hand(&mut session, 1, MARK, 11, 0);
-    hand(&mut session, 8, MARK, 20, 0);
+    hand(&mut session, THREADS as u32, MARK, 20, 0);
     hand(&mut session, 0, 0, 20, 0);
     hand(&mut session, 0, MARK, 65536, 0);
     hand(&mut session, 0, WRITE, 32, -400);

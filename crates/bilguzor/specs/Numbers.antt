@@ -19,7 +19,7 @@ use Rattle.bilguzor.specs.declared.Ordering.{Ordering}
 
 -- the header's number of this library's answers and layouts
 abbrev pub version : ℕ
-version = 5
+version = 6
 
 -- The kinds: 0 none, 1 a match, 2 the pattern is refused, 3 the log is refused.
 abbrev pub kindOf : Refused → Bool → ℕ

@@ -22,6 +22,12 @@ pub fn draw(n: u32) -> u32
     ((n as u64 * 1664525 + 1013904223) % 4294967296) as u32
 }
 
+const LAST_THREAD: u8 = event::THREADS - 1;
+
+const LAST_VARIABLE: u8 = event::VARIABLES - 1;
+
+const LAST_LOCK: u8 = event::LOCKS - 1;
+
 // How a log is drawn: how often an event is drawn anew, whether numbers are the highest, among how many threads, and its mix.
 struct Manner {
     tries: u32,
@@ -66,7 +72,7 @@ fn thread_count(mix: u8, more: bool) -> u8 {
     if mix == 2 || mix == 4 {
         return if more { 4 } else { 2 };
     }
-    if more { 8 } else { 4 }
+    if more { event::THREADS } else { 4 }
 }
 
 // Closes a log; the place after it is within the buffer.
@@ -164,13 +170,18 @@ fn near(n: u8, last: u8, high: bool) -> u8 {
     n
 }
 
-// An event over two variables, two locks, four children and four marks.
+// An event over two variables, two locks, four marks, and four children or all.
 fn drawn_event(drawn: u32, manner: Manner) -> Event {
     let high = manner.high;
     let object = drawn_object(drawn, manner.mix);
-    let thread = near(drawn_thread(drawn, manner.threads), 7, high);
+    let thread = near(drawn_thread(drawn, manner.threads), LAST_THREAD, high);
+    let child = near(
+        drawn_child(drawn, object, manner.threads),
+        LAST_THREAD,
+        high,
+    );
     let kind = drawn / 16777216 % 16;
-    let operation = drawn_operation(in_mix(kind, manner.mix), object, high);
+    let operation = drawn_operation(in_mix(kind, manner.mix), object, child, high);
     Event { thread, operation }
 }
 
@@ -182,13 +193,21 @@ fn drawn_object(drawn: u32, mix: u8) -> u8 {
     (drawn / 1048576 % 4) as u8
 }
 
-// One of two, four or eight threads.
+// One of two threads, of four or of all.
 fn drawn_thread(drawn: u32, threads: u8) -> u8 {
     match threads {
         2 => (drawn / 4194304 % 2) as u8,
         4 => (drawn / 4194304 % 4) as u8,
-        _ => (drawn / 268435456 % 8) as u8,
+        _ => (drawn / 268435456 % event::THREADS as u32) as u8,
     }
+}
+
+// By the object; one of all where all act.
+fn drawn_child(drawn: u32, object: u8, threads: u8) -> u8 {
+    if threads < event::THREADS {
+        return object;
+    }
+    (drawn / 65536 % event::THREADS as u32) as u8
 }
 
 // A number for the operation, by one of 16 drawn.
@@ -244,10 +263,9 @@ fn repeats(kind: u32) -> u32 {
 }
 
 // Writes at two heights, as these play no part in order or pattern.
-fn drawn_operation(kind: u32, object: u8, high: bool) -> Operation {
-    let variable = near(object % 2, 31, high);
-    let lock = near(object / 3, 15, high);
-    let child = near(object, 7, high);
+fn drawn_operation(kind: u32, object: u8, child: u8, high: bool) -> Operation {
+    let variable = near(object % 2, LAST_VARIABLE, high);
+    let lock = near(object / 3, LAST_LOCK, high);
     match kind {
         0..=1 => Operation::Read { variable },
         2 => Operation::Write {

@@ -17,13 +17,33 @@ const DEEP: usize = 255;
 
 fn main() {
     let rows = opened();
-    one_event(b"no session, thread 8", rows, 0, mark(8));
+    one_event(
+        b"no session, thread past the last",
+        rows,
+        0,
+        mark(event::THREADS),
+    );
     one_event(b"one session", rows, 1, mark(0));
-    one_event(b"one session, thread 8", rows, 1, mark(8));
+    one_event(
+        b"one session, thread past the last",
+        rows,
+        1,
+        mark(event::THREADS),
+    );
     one_event(b"sixteen", rows, 16, mark(0));
-    one_event(b"sixteen, thread 8", rows, 16, mark(8));
+    one_event(
+        b"sixteen, thread past the last",
+        rows,
+        16,
+        mark(event::THREADS),
+    );
     one_event(b"seventeen", rows, 17, mark(0));
-    one_event(b"seventeen, thread 8", rows, 17, mark(8));
+    one_event(
+        b"seventeen, thread past the last",
+        rows,
+        17,
+        mark(event::THREADS),
+    );
     disagreeing(rows);
     full(rows);
     batches(rows);

@@ -22,7 +22,7 @@ fn orders_of(queue: &mut [u32], seen: &mut [bool], threads: u8) -> u64 {
         Question {
             events: marks(threads),
             count: 7,
-            slots: [mark(8); MOST],
+            slots: [mark(event::THREADS); MOST],
             size: 1,
         },
     );
@@ -41,7 +41,7 @@ fn marks(threads: u8) -> [u32; MOST] {
 }
 
 fn after(thread: u8, threads: u8) -> u8 {
-    if thread < 8 {
+    if thread < event::THREADS {
         if thread + 1 < threads {
             return thread + 1;
         }

@@ -9,6 +9,7 @@ mod pairs;
 mod patterns;
 mod replays;
 mod tally;
+mod threads;
 mod truth;
 
 use drawn::Draft;

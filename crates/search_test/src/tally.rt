@@ -1,14 +1,18 @@
 // What was seen: kinds of logs and patterns, matches and disagreements. The file stdin has the words for each count, a line each.
 use crate::locks;
 use crate::patterns;
+use crate::threads;
 use crate::truth;
 use crate::truth::Truth;
 use log::LogRead;
 use plain::Leading;
 
-pub const COUNTS: usize = 50;
+pub const COUNTS: usize = CHILDREN + THREADS;
 
-// The places of the counts. Those of kinds are told by the byte of the operation, those of patterns by the number of slots.
+const THREADS: usize = event::THREADS as usize;
+
+// The places of the counts. Those of kinds are told by the byte of the operation, those of patterns by the number of slots, those of acting threads and of
+// children by their number.
 pub const KNOWN: usize = 0;
 
 const LOGS: usize = 4;
@@ -47,6 +51,10 @@ pub const REPLAYS: usize = 38;
 
 const AGAIN: usize = 47;
 
+const ACTING: usize = 50;
+
+const CHILDREN: usize = ACTING + THREADS;
+
 // So many more at a place.
 pub(crate) fn add(counts: &mut [u64; COUNTS], i: usize, n: u64) {
     if i < COUNTS {
@@ -70,6 +78,7 @@ pub(crate) fn log(counts: &mut [u64; COUNTS], read: LogRead, t: Truth) {
         case(counts, t);
         result(counts, t);
         nested(counts, t);
+        named(counts, t.leading);
     }
 }
 
@@ -107,6 +116,21 @@ fn nested(counts: &mut [u64; COUNTS], t: Truth) {
     add_if(counts, AGAIN, again);
     add_if(counts, AGAIN + 1, present);
     add_if(counts, AGAIN + 2, present && !t.unswapped());
+}
+
+// One more for each thread that acts in the log, and for each that it forks or joins.
+fn named(counts: &mut [u64; COUNTS], l: Leading) {
+    for i in 0..THREADS {
+        named_at(counts, l, i);
+    }
+}
+
+fn named_at(counts: &mut [u64; COUNTS], l: Leading, i: usize) {
+    if i >= THREADS {
+        return;
+    }
+    add_if(counts, ACTING + i, threads::named(l, i as u32, false));
+    add_if(counts, CHILDREN + i, threads::named(l, i as u32, true));
 }
 
 // Each count after its words.

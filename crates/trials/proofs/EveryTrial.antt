@@ -123,7 +123,11 @@ computed =
     (All.more refl
     (All.more refl
     (All.more refl
-    (All.more refl All.none))))))))))))))))))
+    (All.more refl
+    (All.more refl
+    (All.more refl
+    (All.more refl
+    (All.more refl All.none))))))))))))))))))))))
 
 -- "proved of the definitions by a lone theorem"
 pub every-trial : All Shows trials

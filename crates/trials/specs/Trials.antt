@@ -126,9 +126,13 @@ trials =
     ∷ reads (closed (acquire T0 2 ∷ acquire T0 2 ∷ [])) (passed 2)
     -- 7. "T0 forks 1, T1 mark 5; pattern T1 mark 5, T0 fork 1: none."
     ∷ judged (closed (mark T1 5 ∷ fork T0 1 ∷ [])) (closed (fork T0 1 ∷ mark T1 5 ∷ [])) none
-    -- 8. "Thread 7 is taken, 8 gives 5."
+    -- 8. "Thread 7 is taken": "in trial 8 thread 8 is accepted" (Note 7), and so is 15; "Refusal 5 and the child case of 6 begin at 16"
     ∷ reads (closed (mark 7 5 ∷ [])) (passed 1)
-    ∷ reads (closed (mark 8 5 ∷ [])) (Passing.refused 5 0)
+    ∷ reads (closed (mark 8 5 ∷ [])) (passed 1)
+    ∷ reads (closed (mark 15 5 ∷ [])) (passed 1)
+    ∷ reads (closed (mark 16 5 ∷ [])) (Passing.refused 5 0)
+    ∷ reads (closed (fork T0 15 ∷ [])) (passed 1)
+    ∷ reads (closed (fork T0 16 ∷ [])) (Passing.refused 6 0)
     -- "Variable 31 is taken, 32 gives 6."
     ∷ reads (closed (read T0 31 ∷ [])) (passed 1)
     ∷ reads (closed (read T0 32 ∷ [])) (Passing.refused 6 0)
