@@ -54,7 +54,8 @@
 extern "C" {
 #endif
 
-/* Raised whenever an answer or the layout of a session changes; bilguzor_version gives that of the library that is linked. */
+/* Raised whenever an answer or the layout of a session changes; bilguzor_version gives that of the library that is linked. Where the two differ nothing may
+ * be called, and a session that was kept under another version can't go on: it is opened anew and handed its events again. */
 #define BILGUZOR_VERSION 6
 
 #define BILGUZOR_THREADS 16

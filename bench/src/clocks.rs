@@ -1,7 +1,7 @@
 // What (b) and (e) have in common: the vector clock of each event, and operation, thread and object as one number.
 use crate::decode::{Event, Operation};
 use crate::reference::Label;
-use crate::verdict::THREADS;
+use crate::verdict::{LOCKS, THREADS, VARIABLES};
 
 /// For each thread how many of its events come before or are the event.
 pub type Clock = [u16; THREADS];
@@ -9,9 +9,9 @@ pub type Clock = [u16; THREADS];
 /// The newest clocks, from which that of the next event is made.
 pub struct Clocks {
     threads: [Clock; THREADS],
-    reads: [Clock; 32],
-    writes: [Clock; 32],
-    locks: [Clock; 16],
+    reads: [Clock; VARIABLES],
+    writes: [Clock; VARIABLES],
+    locks: [Clock; LOCKS],
 }
 
 #[inline(always)]
@@ -23,7 +23,8 @@ pub fn join(a: &mut Clock, b: &Clock) {
 
 impl Clocks {
     pub fn new() -> Clocks {
-        Clocks { threads: [[0; THREADS]; THREADS], reads: [[0; THREADS]; 32], writes: [[0; THREADS]; 32], locks: [[0; THREADS]; 16] }
+        let none = [0; THREADS];
+        Clocks { threads: [none; THREADS], reads: [none; VARIABLES], writes: [none; VARIABLES], locks: [none; LOCKS] }
     }
 
     /// The clock of the next event.

@@ -1,5 +1,5 @@
 // The functions of the proved static library, declared as its C header has them, with one safe wrapper each.
-use crate::verdict::{found, Judged, Outcome, Refusal, Relation, SLOTS, THREADS};
+use crate::verdict::{found, Judged, Outcome, Refusal, Relation, LOCKS, SLOTS, THREADS, VARIABLES};
 
 #[repr(C)]
 struct Judgement {
@@ -49,8 +49,6 @@ impl Event {
 
 /// How many numbers the parts of a session have that grow with the threads: clocks of each thread, of the reads and writes of each variable, and of each
 /// lock; of the rules an entry for each thread, and two for each lock.
-const VARIABLES: usize = 32;
-const LOCKS: usize = 16;
 const CLOCKS: usize = (THREADS + 2 * VARIABLES + LOCKS) * THREADS;
 const STATE: usize = THREADS + 2 * LOCKS;
 

@@ -1,6 +1,8 @@
 // What a contestant answers about a pattern and a log, and an order query about a log.
 
 pub const THREADS: usize = 16;
+pub const VARIABLES: usize = 32;
+pub const LOCKS: usize = 16;
 pub const SLOTS: usize = 5;
 pub const EVENTS: usize = 65535;
 

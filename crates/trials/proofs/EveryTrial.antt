@@ -9,6 +9,7 @@ use mathlib.Core.List.{List·Memᴰ·not-nil as not-mem-nil}
 use lib.ListN.{length}
 use Rattle.event.specs.declared.Event.{Event}
 use Rattle.event.specs.declared.Slot.{Slot}
+use Rattle.event.specs.Limits.{formerThreads}
 use Rattle.event.specs.Range.{rangeRefusalUnder}
 use Rattle.event.specs.Slots.{fits, noEvent}
 use Rattle.rules.specs.Accepted.{some, lockOf, refusalUnder}
@@ -24,7 +25,7 @@ use Rattle.dependence.specs.Order.{HasMatch, IsCount, Named, IsFirst}
 use Rattle.height.specs.Rounding.{metresOf}
 use Rattle.page.specs.Text.{figures}
 use Rattle.listing_text.specs.Text.{heightText}
-use Rattle.trials.specs.Trials.{Verdict, match, none, Trial, judged, any-pattern, reads, prints, IsVerdict, Shows, All, trials}
+use Rattle.trials.specs.Trials.{Verdict, match, none, Trial, judged, any-pattern, reads, formerly, prints, IsVerdict, Shows, All, trials}
 use Rattle.trials.proofs.Search.{nameable, nameable-named, named-nameable}
 
 -- what a plain search finds: the count and the only numbers that can be named, or nothing
@@ -79,6 +80,7 @@ Computed (judged pattern log v) = FoundIn (readPattern pattern) (readLog log) v
 Computed (any-pattern log (match n numbers)) = ⊥
 Computed (any-pattern log none) = readLog log ≡ accepted []
 Computed (reads log outcome) = outcomeOf (readLog log) ≡ outcome
+Computed (formerly log outcome) = outcomeOf (readLogUnder formerThreads log) ≡ outcome
 Computed (prints mm text) = heightText mm ≡ text
 
 shown : (t : Trial) → Computed t → Shows t
@@ -95,6 +97,7 @@ shown (any-pattern log none) c = ([], c, λ pattern b ss p. nothing ss (pattern-
     nothing [] l h = omega arith
     nothing (s ∷ ss) l h = empty-match dependent fits s ss h
 shown (reads log outcome) c = c
+shown (formerly log outcome) c = c
 shown (prints mm text) c = c
 
 all-shown : {ts : List Trial} → All Computed ts → All Shows ts
@@ -127,7 +130,9 @@ computed =
     (All.more refl
     (All.more refl
     (All.more refl
-    (All.more refl All.none))))))))))))))))))))))
+    (All.more refl
+    (All.more refl
+    (All.more refl All.none))))))))))))))))))))))))
 
 -- "proved of the definitions by a lone theorem"
 pub every-trial : All Shows trials

@@ -6,8 +6,9 @@ use mathlib.Core.List.{List, [], _∷_, _++_}
 use lib.IntN.{ℤ, pos, negℤ}
 use Rattle.event.specs.declared.Event.{Event}
 use Rattle.event.specs.declared.Slot.{Slot}
+use Rattle.event.specs.Limits.{formerThreads}
 use Rattle.command.specs.Bytes.{Bytes}
-use Rattle.log.specs.Whole.{Passing, passed, accepted, outcomeOf, readLog, readPattern}
+use Rattle.log.specs.Whole.{Passing, passed, accepted, outcomeOf, readLog, readLogUnder, readPattern}
 use Rattle.dependence.specs.Order.{HasMatch, IsCount, Named, IsFirst}
 use Rattle.page.specs.Text.{ascii}
 use Rattle.listing_text.specs.Text.{heightText}
@@ -20,11 +21,13 @@ pub data Verdict : Type 0 where
   none : Verdict
 
 -- a row of the table: of a pattern and a log, by their bytes, the verdict; of a log, the verdict with "any good pattern";
--- of a log, that it is taken, with how many events, or the number and offset of its refusal; of a height in mm, its text
+-- of a log, that it is taken, with how many events, or the number and offset of its refusal; the same under the limit of threads that document 01
+-- had; of a height in mm, its text
 pub data Trial : Type 0 where
   judged : List ℕ → List ℕ → Verdict → Trial
   any-pattern : List ℕ → Verdict → Trial
   reads : List ℕ → Passing → Trial
+  formerly : List ℕ → Passing → Trial
   prints : ℤ → List ℕ → Trial
 
 -- the verdict is that of the slots and the events: "A list has a match when some order reached from it holds the pattern,
@@ -44,6 +47,7 @@ Shows (any-pattern log v) =
     (es : List Event) × (readLog log ≡ accepted es)
     × ((pattern : List ℕ) → Bytes pattern → (ss : List Slot) → readPattern pattern ≡ accepted ss → IsVerdict ss es v)
 Shows (reads log outcome) = outcomeOf (readLog log) ≡ outcome
+Shows (formerly log outcome) = outcomeOf (readLogUnder formerThreads log) ≡ outcome
 Shows (prints mm text) = heightText mm ≡ text
 
 -- every row of the table is so
@@ -126,7 +130,10 @@ trials =
     ∷ reads (closed (acquire T0 2 ∷ acquire T0 2 ∷ [])) (passed 2)
     -- 7. "T0 forks 1, T1 mark 5; pattern T1 mark 5, T0 fork 1: none."
     ∷ judged (closed (mark T1 5 ∷ fork T0 1 ∷ [])) (closed (fork T0 1 ∷ mark T1 5 ∷ [])) none
-    -- 8. "Thread 7 is taken": "in trial 8 thread 8 is accepted" (Note 7), and so is 15; "Refusal 5 and the child case of 6 begin at 16"
+    -- 8. "Thread 7 is taken, 8 gives 5.": under the limit that document 01 had
+    ∷ formerly (closed (mark 7 5 ∷ [])) (passed 1)
+    ∷ formerly (closed (mark 8 5 ∷ [])) (Passing.refused 5 0)
+    -- "in trial 8 thread 8 is accepted" (Note 7), and so is 15; "Refusal 5 and the child case of 6 begin at 16"
     ∷ reads (closed (mark 7 5 ∷ [])) (passed 1)
     ∷ reads (closed (mark 8 5 ∷ [])) (passed 1)
     ∷ reads (closed (mark 15 5 ∷ [])) (passed 1)
