@@ -1,7 +1,7 @@
--- Signed division of millimetres, rounded at the half: what the machine's quotient and remainder give.
+-- Signed division of millimetres, a half away from zero: what the machine's quotient and remainder give; and that figures fit.
 use Prim.Native.Nat.{ℕ, zero, suc, _+_, _-_, _/_, _%_, _^_, _<_, _≤_}
 use native.Mathlib.Omega.{arith}
-use native.Mathlib.Nat.{zero-add, add-zero, lt-of-le-of-lt}
+use native.Mathlib.Nat.{zero-add, add-zero, lt-of-le-of-lt, div-le-self}
 use mathlib.Core.Path.{_≡_, refl, sym, ap, _∙_}
 use mathlib.Core.Bool.{true, false, false≢true}
 use lib.IntN.{ℤ, pos, negsuc, negℤ, natAbs, _+ℤ_, _-ℤ_}
@@ -11,7 +11,8 @@ use mir.Syntax.{w32}
 use mir.Val.{Fits, SFits, toZ, ofZ}
 use mir.Facts.{toZ-ofZ}
 use borrow.Author.Tests.{leb-true, leb-false, ltb-true}
-use Rattle.height.specs.Rounding.{tenthsOf, figuresOf}
+use Rattle.height.specs.Rounding.{halfToEven, tenthsOf, formerTenthsOf, figuresOf}
+use Rattle.height.proofs.Halves.{at-most}
 
 -- a number as a 32-bit register holds it
 abbrev pub held : ℤ → ℤ
@@ -24,18 +25,19 @@ mag-negated : (r : ℕ) → mag (negℤ (pos r)) ≤ r
 mag-negated zero = omega arith
 mag-negated (suc r) = omega arith
 
-pub quotient-fits : (z : ℤ) → mag z < 2 ^ 31 → mag (quotZ z (pos 100)) < 2 ^ 31
-quotient-fits (pos n) h = let m : n < 2 ^ 31 = h in omega arith
-quotient-fits (negsuc n) h =
-    let m : n < 2 ^ 31 = h in
-    let l : mag (negℤ (pos (suc n / 100))) ≤ suc n / 100 = mag-negated (suc n / 100) in
-    omega arith
+quotient-fits : (z : ℤ) (d : ℕ) → mag z < 2 ^ 31 → mag (quotZ z (pos d)) < 2 ^ 31
+quotient-fits (pos n) d h = lt-of-le-of-lt (div-le-self n d) h
+quotient-fits (negsuc n) d h = below (suc n / d) (div-le-self (suc n) d)
+  where
+    below : (q : ℕ) → q ≤ suc n → mag (negℤ (pos q)) < 2 ^ 31
+    below zero l = omega arith
+    below (suc q) l = let m : n < 2 ^ 31 = h in omega arith
 
-pub remainder-fits : (z : ℤ) → mag z < 2 ^ 31 → mag (remZ z (pos 100)) < 2 ^ 31
+remainder-fits : (z : ℤ) → mag z < 2 ^ 31 → mag (remZ z (pos 100)) < 2 ^ 31
 remainder-fits z h = lt-of-le-of-lt (mag-rem z (pos 100)) h
 
 -- at least a half above
-up : (z : ℤ) → mag z < 2 ^ 31 → leZ (pos 50) (remZ z (pos 100)) ≡ true → (mag (quotZ z (pos 100) +ℤ pos 1) < 2 ^ 31) × (quotZ z (pos 100) +ℤ pos 1 ≡ tenthsOf z)
+up : (z : ℤ) → mag z < 2 ^ 31 → leZ (pos 50) (remZ z (pos 100)) ≡ true → (mag (quotZ z (pos 100) +ℤ pos 1) < 2 ^ 31) × (quotZ z (pos 100) +ℤ pos 1 ≡ formerTenthsOf z)
 up (pos n) h t =
     let m : n < 2 ^ 31 = h in
     let r : 50 ≤ n % 100 = leb-true 50 (n % 100) t in
@@ -52,7 +54,7 @@ minus-one zero = refl
 minus-one (suc q) = ap (λ (k : ℕ). negsuc (suc k)) (add-zero q)
 
 -- at least a half below
-down : (z : ℤ) → mag z < 2 ^ 31 → leZ (remZ z (pos 100)) (negsuc 49) ≡ true → (mag (quotZ z (pos 100) -ℤ pos 1) < 2 ^ 31) × (quotZ z (pos 100) -ℤ pos 1 ≡ tenthsOf z)
+down : (z : ℤ) → mag z < 2 ^ 31 → leZ (remZ z (pos 100)) (negsuc 49) ≡ true → (mag (quotZ z (pos 100) -ℤ pos 1) < 2 ^ 31) × (quotZ z (pos 100) -ℤ pos 1 ≡ formerTenthsOf z)
 down (pos n) h t = absurd (false≢true t)
 down (negsuc n) h t =
     let m : n < 2 ^ 31 = h in
@@ -65,7 +67,7 @@ down (negsuc n) h t =
     half (suc r) q = let l : 49 ≤ r = leb-true 49 r q in omega arith
 
 -- less than a half either way
-stay : (z : ℤ) → leZ (pos 50) (remZ z (pos 100)) ≡ false → leZ (remZ z (pos 100)) (negsuc 49) ≡ false → quotZ z (pos 100) ≡ tenthsOf z
+stay : (z : ℤ) → leZ (pos 50) (remZ z (pos 100)) ≡ false → leZ (remZ z (pos 100)) (negsuc 49) ≡ false → quotZ z (pos 100) ≡ formerTenthsOf z
 stay (pos n) a b =
     let r : n % 100 < 50 = leb-false 50 (n % 100) a in
     let e : n / 100 ≡ (n + 50) / 100 = omega arith in
@@ -85,40 +87,43 @@ module _ (z : ℤ) (h : mag z < 2 ^ 31) where
   whole : held z ≡ z
   whole = held-is z h
 
-  quotient : held (quotZ (held z) (pos 100)) ≡ quotZ z (pos 100)
-  quotient = ap (λ (y : ℤ). held (quotZ y (pos 100))) whole ∙ held-is (quotZ z (pos 100)) (quotient-fits z h)
+  pub quotient : held (quotZ (held z) (pos 100)) ≡ quotZ z (pos 100)
+  quotient = ap (λ (y : ℤ). held (quotZ y (pos 100))) whole ∙ held-is (quotZ z (pos 100)) (quotient-fits z 100 h)
 
   remainder : held (remZ (held z) (pos 100)) ≡ remZ z (pos 100)
   remainder = ap (λ (y : ℤ). held (remZ y (pos 100))) whole ∙ held-is (remZ z (pos 100)) (remainder-fits z h)
 
   pub divides : (0 < 100) × SFits w32 (quotZ (held z) (pos 100))
-  divides = (omega arith, rw whole (record { sfits = quotient-fits z h }))
+  divides = (omega arith, rw whole (record { sfits = quotient-fits z 100 h }))
+
+  pub divides-again : (0 < 2) × SFits w32 (quotZ (held (quotZ (held z) (pos 100))) (pos 2))
+  divides-again = (omega arith, rw quotient (record { sfits = quotient-fits (quotZ z (pos 100)) 2 (quotient-fits z 100 h) }))
 
   pub rounds-up : leZ (pos 50) (held (remZ (held z) (pos 100))) ≡ true
-      → SFits w32 (held (quotZ (held z) (pos 100)) +ℤ pos 1) × (held (held (quotZ (held z) (pos 100)) +ℤ pos 1) ≡ tenthsOf z)
+      → SFits w32 (held (quotZ (held z) (pos 100)) +ℤ pos 1) × (held (held (quotZ (held z) (pos 100)) +ℤ pos 1) ≡ formerTenthsOf z)
   rounds-up t =
       let r = up z h (rw remainder at t) in
       rw quotient (record { sfits = r .0 }, held-is (quotZ z (pos 100) +ℤ pos 1) (r .0) ∙ r .1)
 
   pub rounds-down : leZ (held (remZ (held z) (pos 100))) (negsuc 49) ≡ true
-      → SFits w32 (held (quotZ (held z) (pos 100)) -ℤ pos 1) × (held (held (quotZ (held z) (pos 100)) -ℤ pos 1) ≡ tenthsOf z)
+      → SFits w32 (held (quotZ (held z) (pos 100)) -ℤ pos 1) × (held (held (quotZ (held z) (pos 100)) -ℤ pos 1) ≡ formerTenthsOf z)
   rounds-down t =
       let r = down z h (rw remainder at t) in
       rw quotient (record { sfits = r .0 }, held-is (quotZ z (pos 100) -ℤ pos 1) (r .0) ∙ r .1)
 
   pub stays : leZ (pos 50) (held (remZ (held z) (pos 100))) ≡ false → leZ (held (remZ (held z) (pos 100))) (negsuc 49) ≡ false
-      → held (quotZ (held z) (pos 100)) ≡ tenthsOf z
+      → held (quotZ (held z) (pos 100)) ≡ formerTenthsOf z
   stays a b = quotient ∙ stay z (rw remainder at a) (rw remainder at b)
 
 -- ---- the figures
 
 -- rounded, a height still fits
 pub rounded-fits : (z : ℤ) → mag z < 2 ^ 31 → mag (tenthsOf z) < 2 ^ 31 - 1
-rounded-fits (pos n) h = let m : n < 2 ^ 31 = h in omega arith
+rounded-fits (pos n) h = let m : n < 2 ^ 31 = h in omega (arith, at-most n)
 rounded-fits (negsuc n) h =
     let m : n < 2 ^ 31 = h in
-    let l : mag (negℤ (pos ((suc n + 50) / 100))) ≤ (suc n + 50) / 100 = mag-negated ((suc n + 50) / 100) in
-    omega arith
+    let l : mag (negℤ (pos (halfToEven (suc n)))) ≤ halfToEven (suc n) = mag-negated (halfToEven (suc n)) in
+    omega (arith, at-most (suc n))
 
 module _ (t : ℤ) (h : mag t < 2 ^ 31 - 1) where
   fits : mag t < 2 ^ 31

@@ -7,7 +7,7 @@ use Rattle.event.specs.declared.Event.{Event}
 use Rattle.event.specs.declared.Operation.{Operation}
 use Rattle.event.specs.declared.Operation.the-variants.{Read, Write, Acquire, Release, Fork, Join, Mark}
 use Rattle.height.specs.declared.Metres.{Metres}
-use Rattle.height.specs.Rounding.{metresOf}
+use Rattle.height.specs.Rounding.{formerTenthsOf, figuresOf, metresOf}
 use Rattle.page.specs.Text.{ascii, decimal}
 use Rattle.page.specs.Lines.{refusalLine}
 
@@ -17,6 +17,10 @@ metresText m = cond (m .below) (ascii "-") [] ++ decimal (m .whole) ++ ascii "."
 
 unfoldable pub heightText : ℤ → List ℕ
 heightText mm = metresText (metresOf mm)
+
+-- the text that document 01 had for it, which Note 8 compares with
+unfoldable pub formerHeightText : ℤ → List ℕ
+formerHeightText mm = metresText (figuresOf (formerTenthsOf mm))
 
 -- "operation word from the table, object number, and for a write the height"
 abbrev pub operationText : Operation → List ℕ

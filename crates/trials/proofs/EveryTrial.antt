@@ -24,8 +24,8 @@ use Rattle.dependence.specs.Dependence.{dependent}
 use Rattle.dependence.specs.Order.{HasMatch, IsCount, Named, IsFirst}
 use Rattle.height.specs.Rounding.{metresOf}
 use Rattle.page.specs.Text.{figures}
-use Rattle.listing_text.specs.Text.{heightText}
-use Rattle.trials.specs.Trials.{Verdict, match, none, Trial, judged, any-pattern, reads, formerly, prints, IsVerdict, Shows, All, trials}
+use Rattle.listing_text.specs.Text.{heightText, formerHeightText}
+use Rattle.trials.specs.Trials.{Verdict, match, none, Trial, judged, any-pattern, reads, formerly, prints, formerly-prints, IsVerdict, Shows, All, trials}
 use Rattle.trials.proofs.Search.{nameable, nameable-named, named-nameable}
 
 -- what a plain search finds: the count and the only numbers that can be named, or nothing
@@ -82,6 +82,7 @@ Computed (any-pattern log none) = readLog log ≡ accepted []
 Computed (reads log outcome) = outcomeOf (readLog log) ≡ outcome
 Computed (formerly log outcome) = outcomeOf (readLogUnder formerThreads log) ≡ outcome
 Computed (prints mm text) = heightText mm ≡ text
+Computed (formerly-prints mm text) = formerHeightText mm ≡ text
 
 shown : (t : Trial) → Computed t → Shows t
 shown (judged pattern log v) c = go (readPattern pattern) refl (readLog log) refl c
@@ -99,6 +100,7 @@ shown (any-pattern log none) c = ([], c, λ pattern b ss p. nothing ss (pattern-
 shown (reads log outcome) c = c
 shown (formerly log outcome) c = c
 shown (prints mm text) c = c
+shown (formerly-prints mm text) c = c
 
 all-shown : {ts : List Trial} → All Computed ts → All Shows ts
 all-shown All.none = All.none
@@ -106,7 +108,7 @@ all-shown (All.more {t = t} c cs) = All.more (shown t c) (all-shown cs)
 
 -- one line for each row of the table
 computed : All Computed trials
-unfolding readPatternUnder readLogUnder rowFrom stepUnder slotUnder readSlotUnder decode rangeRefusalUnder refusalUnder some lockOf dependent before heightText metresOf figures
+unfolding readPatternUnder readLogUnder rowFrom stepUnder slotUnder readSlotUnder decode rangeRefusalUnder refusalUnder some lockOf dependent before heightText formerHeightText metresOf figures
 computed =
     All.more refl
     (All.more refl
@@ -132,7 +134,16 @@ computed =
     (All.more refl
     (All.more refl
     (All.more refl
-    (All.more refl All.none))))))))))))))))))))))))
+    (All.more refl
+    (All.more refl
+    (All.more refl
+    (All.more refl
+    (All.more refl
+    (All.more refl
+    (All.more refl
+    (All.more refl
+    (All.more refl
+    (All.more refl All.none)))))))))))))))))))))))))))))))))
 
 -- "proved of the definitions by a lone theorem"
 pub every-trial : All Shows trials

@@ -11,7 +11,7 @@ use Rattle.command.specs.Bytes.{Bytes}
 use Rattle.log.specs.Whole.{Passing, passed, accepted, outcomeOf, readLog, readLogUnder, readPattern}
 use Rattle.dependence.specs.Order.{HasMatch, IsCount, Named, IsFirst}
 use Rattle.page.specs.Text.{ascii}
-use Rattle.listing_text.specs.Text.{heightText}
+use Rattle.listing_text.specs.Text.{heightText, formerHeightText}
 
 -- ---- what a row means
 
@@ -22,13 +22,14 @@ pub data Verdict : Type 0 where
 
 -- a row of the table: of a pattern and a log, by their bytes, the verdict; of a log, the verdict with "any good pattern";
 -- of a log, that it is taken, with how many events, or the number and offset of its refusal; the same under the limit of threads that document 01
--- had; of a height in mm, its text
+-- had; of a height in mm, its text; the same by the rounding that document 01 had
 pub data Trial : Type 0 where
   judged : List ℕ → List ℕ → Verdict → Trial
   any-pattern : List ℕ → Verdict → Trial
   reads : List ℕ → Passing → Trial
   formerly : List ℕ → Passing → Trial
   prints : ℤ → List ℕ → Trial
+  formerly-prints : ℤ → List ℕ → Trial
 
 -- the verdict is that of the slots and the events: "A list has a match when some order reached from it holds the pattern,
 -- else none."; the count is the list's, and the numbers are the first list, which a run names, and the only ones that can be
@@ -49,6 +50,7 @@ Shows (any-pattern log v) =
 Shows (reads log outcome) = outcomeOf (readLog log) ≡ outcome
 Shows (formerly log outcome) = outcomeOf (readLogUnder formerThreads log) ≡ outcome
 Shows (prints mm text) = heightText mm ≡ text
+Shows (formerly-prints mm text) = formerHeightText mm ≡ text
 
 -- every row of the table is so
 pub data All (P : Trial → Type 0) : List Trial → Type 0 where
@@ -143,11 +145,23 @@ trials =
     -- "Variable 31 is taken, 32 gives 6."
     ∷ reads (closed (read T0 31 ∷ [])) (passed 1)
     ∷ reads (closed (read T0 32 ∷ [])) (Passing.refused 6 0)
-    -- 9. "49 mm prints 0.0, 50 prints 0.1, −49 prints 0.0, −50 prints -0.1, −400 prints -0.4; −2,147,483,648 prints -2147483.6."
+    -- 9. "49 mm prints 0.0, 50 prints 0.1, −49 prints 0.0, −50 prints -0.1, −400 prints -0.4; −2,147,483,648 prints -2147483.6.": by the rounding that
+    -- document 01 had
+    ∷ formerly-prints (pos 49) (ascii "0.0")
+    ∷ formerly-prints (pos 50) (ascii "0.1")
+    ∷ formerly-prints (minus 49) (ascii "0.0")
+    ∷ formerly-prints (minus 50) (ascii "-0.1")
+    ∷ formerly-prints (minus 400) (ascii "-0.4")
+    ∷ formerly-prints (minus 2_147_483_648) (ascii "-2147483.6")
+    -- "Trial 9 changes at 50 and −50 only." (Note 8)
     ∷ prints (pos 49) (ascii "0.0")
-    ∷ prints (pos 50) (ascii "0.1")
+    ∷ prints (pos 50) (ascii "0.0")
     ∷ prints (minus 49) (ascii "0.0")
-    ∷ prints (minus 50) (ascii "-0.1")
+    ∷ prints (minus 50) (ascii "0.0")
     ∷ prints (minus 400) (ascii "-0.4")
     ∷ prints (minus 2_147_483_648) (ascii "-2147483.6")
+    -- "150 prints 0.2, 250 prints 0.2, 350 prints 0.4"
+    ∷ prints (pos 150) (ascii "0.2")
+    ∷ prints (pos 250) (ascii "0.2")
+    ∷ prints (pos 350) (ascii "0.4")
     ∷ []
