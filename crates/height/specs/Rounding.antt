@@ -37,6 +37,7 @@ abbrev pub signed : (ℕ → ℕ) → ℤ → ℤ
 signed rounding (pos n) = pos (rounding n)
 signed rounding (negsuc n) = negℤ (pos (rounding (suc n)))
 
+-- the tenths of a metre that are printed: "rounded to the nearest hundred", "Halves to the even tenth"
 abbrev pub tenthsOf : ℤ → ℤ
 tenthsOf = signed halfToEven
 
