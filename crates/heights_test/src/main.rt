@@ -11,6 +11,8 @@ fn main() {
     console::count(b"from -1000 to 1000 mm", all);
     let ends = at_the_ends(0);
     console::count(b"at both ends", ends);
+    let none = not_so(0);
+    console::count(b"otherwise", none);
 }
 
 // The table. A row has the first and the last height that print so; `n` counts on.
@@ -51,6 +53,16 @@ fn at_the_ends(from: u64) -> u64 {
     n = row(n, 2147483350, 2147483450, b"2147483.4");
     n = row(n, 2147483451, 2147483549, b"2147483.5");
     row(n, 2147483550, 2147483647, b"2147483.6")
+}
+
+// What no height prints: a sign before zero, what document 01 had for 50 and -50 mm, and halves at the odd tenth. Each count is 0, so that a row is seen to fail.
+fn not_so(from: u64) -> u64 {
+    let mut n = from;
+    n = row(n, -1000, 1000, b"-0.0");
+    n = row(n, 50, 50, b"0.1");
+    n = row(n, -50, -50, b"-0.1");
+    n = row(n, 150, 150, b"0.1");
+    row(n, 250, 250, b"0.3")
 }
 
 // Says how many heights of the row print so, and counts them on. They are looked for among those from -1,000 up, from the lowest up, and up to the highest.
