@@ -5,7 +5,7 @@ use event::Operation;
 use log::LogRead;
 use writer::Written;
 ghost use mathlib.Core.Path.{_≡_};
-ghost use Prim.Native.Nat.{_+_, _*_, _%_, _≤_};
+ghost use Prim.Native.Nat.{_≤_};
 ghost use lib.ListN.{length};
 ghost use Rattle.drawn.specs.Drawing.{isAccepted, placeAfter};
 
@@ -13,13 +13,6 @@ ghost use Rattle.drawn.specs.Drawing.{isAccepted, placeAfter};
 pub struct Draft {
     pub at: usize,
     pub drawn: u32,
-}
-
-// The number drawn after n: the low 32 bits of 1664525 n + 1013904223.
-pub fn draw(n: u32) -> u32
-    ensures { λ r. ⌜ r ≡ (n * 1664525 + 1013904223) % 4294967296 ⌝ }
-{
-    ((n as u64 * 1664525 + 1013904223) % 4294967296) as u32
 }
 
 const LAST_THREAD: u8 = event::THREADS - 1;
@@ -40,7 +33,7 @@ struct Manner {
 pub fn make(buffer: &mut [u8], drawn: u32) -> Draft
     ensures { λ r. ⌜ r .at ≤ length (now (buffer .exit)) ⌝ }
 {
-    let shape = draw(drawn);
+    let shape = generator::step(drawn);
     let manner = Manner {
         tries: 1 + shape / 2097152 % 8,
         high: shape / 1048576 % 2 == 1,
@@ -56,7 +49,7 @@ pub fn make(buffer: &mut [u8], drawn: u32) -> Draft
 pub fn make_mixed(buffer: &mut [u8], drawn: u32, mix: u8) -> Draft
     ensures { λ r. ⌜ r .at ≤ length (now (buffer .exit)) ⌝ }
 {
-    let shape = draw(drawn);
+    let shape = generator::step(drawn);
     let manner = Manner {
         tries: 8,
         high: shape / 1048576 % 2 == 1,
@@ -107,7 +100,7 @@ fn one_event(buffer: &mut [u8], d: Draft, manner: Manner) -> Draft {
     let mut end = at;
     let mut drawn = d.drawn;
     for n in 0..tries {
-        drawn = draw(drawn);
+        drawn = generator::step(drawn);
         end = place_after(
             writer::write_event(buffer, at, drawn_event(drawn, manner)),
             at,

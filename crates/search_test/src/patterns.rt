@@ -12,7 +12,7 @@ pub struct Sketch {
 
 // Draws slots in the order of their events, and then exchanges two of them up to three times.
 pub(crate) fn draw(l: Leading, from: u32) -> Sketch {
-    let shape = drawn::draw(from);
+    let shape = generator::step(from);
     let rising = in_sequence(l, shape);
     let times = (shape / 1048576 % 4) as usize;
     mixed(rising, times)
@@ -23,7 +23,7 @@ fn in_sequence(l: Leading, shape: u32) -> Sketch {
     let mut place = (shape / 4194304 % 2) as usize;
     let mut drawn = shape;
     for i in 0..5 {
-        drawn = drawn::draw(drawn);
+        drawn = generator::step(drawn);
         slots[i] = slot_from(l, place, drawn);
         place = next(place, drawn);
     }
@@ -101,7 +101,7 @@ fn mixed(k: Sketch, times: usize) -> Sketch {
 
 // Two slots drawn by number change places.
 fn exchanged(k: Sketch) -> Sketch {
-    let drawn = drawn::draw(k.drawn);
+    let drawn = generator::step(k.drawn);
     let size = k.size;
     if size < 1 {
         return k;

@@ -1,0 +1,2 @@
+-- Heights lie within 32 bits.
+pub mod Heights
