@@ -1,0 +1,2 @@
+-- The load of a seed and a count.
+pub mod Load
