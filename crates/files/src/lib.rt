@@ -1,6 +1,8 @@
-// Files by their names, for the programs: a folder's two files read and listed, an order query of its log, a text printed, a file written whole.
+// Files by their names, for the programs: a folder's two files read and listed, an order query of its log, a text printed, a file written whole, a replay and a
+// load saved.
 // What the system reads and writes is assumed and not proved.
 use arguments::Pair;
+use load_text::Made;
 use run::Outcome;
 use writer::Written;
 ghost use Prim.Native.Nat.{ℕ, _≤_};
@@ -9,6 +11,7 @@ ghost use mathlib.Core.Bool.{false};
 ghost use lib.ListN.{length};
 ghost use lib.IntN.{pos};
 ghost use Rattle.io.specs.Counts.{Counts};
+ghost use Rattle.load_text.specs.LoadText.{LogWithin};
 ghost use Rattle.files.specs.Listed.{SomeListing, SomeOrder, InPage};
 ghost use Rattle.files.specs.Paths.{Appended, SpareName};
 
@@ -102,6 +105,16 @@ pub fn save_replay(pattern: &[u8], log: &[u8]) -> bool {
         return true;
     };
     save(b"replay.bin", &buffer[..size])
+}
+
+// Writes load.bin, where a load was made at the start of the space, and answers whether that went well. Where none was made no file is touched.
+pub fn save_load(made: Made, space: &[u8]) -> bool
+    requires { ⌜ LogWithin made (now space) ⌝ }
+{
+    match made {
+        Made::Log { size } => save(b"load.bin", &space[..size]),
+        _ => true,
+    }
 }
 
 // Makes the file of this name anew, or replaces it whole, and answers whether it did. Where it did not, what had the name still has it,

@@ -1,0 +1,2 @@
+-- What the program `load` makes and prints.
+pub mod LoadText
