@@ -1,5 +1,5 @@
-/* bilguzor: whether some order of the events of a log holds a pattern. The functions of libbilguzor.a, and of libbilguzor_row.a, for
- * C and C++.
+/* bilguzor: whether some order of the events of a log holds a pattern. The functions of libbilguzor.a, and of libbilguzor_row.a and
+ * libbilguzor_load.a, for C and C++.
  *
  * Every function ends, traps on nothing and keeps no memory of its own: what is known of a session lies in the bilguzor_session that the
  * caller holds, so that threads may work at once, each on its own session. A pointer must not be NULL, even where its size is 0, and must lead to
@@ -43,6 +43,8 @@
  *   15  replay: the buffer has fewer bytes than the log, match or none; looked for after the whole log has passed, and the offset is 0
  *   16  order query: an event number of 0 or above the number of events; the offset is 0
  *   18  row: more than 16 sessions; looked for before any number of the event and any session, and the offset is 0
+ *   22  load: a count above 65535; the offset is 0
+ *   15  load: the buffer has fewer bytes than the whole log; looked for after 22, and the offset is 0
  */
 #ifndef BILGUZOR_H
 #define BILGUZOR_H
@@ -65,6 +67,12 @@ extern "C" {
 
 /* The most sessions that a row has. */
 #define BILGUZOR_ROW 16
+
+/* The most events that a log has. */
+#define BILGUZOR_EVENTS 65535
+
+/* A buffer of so many bytes has room for the load of any seed and count. */
+#define BILGUZOR_LOAD_SIZE (7 * BILGUZOR_EVENTS + 1)
 
 /* How many numbers each part of a session has: clocks of each thread, of the reads and of the writes of each variable, and of each lock; the table; and
  * of the rules one entry for each thread and two for each lock. */
@@ -141,6 +149,13 @@ typedef struct bilguzor_row_report {
     size_t place; /* the lowest place in the row, counted from 1, that refused; 0 without one and with 18 */
 } bilguzor_row_report;
 
+/* What became of a load. 24 bytes. */
+typedef struct bilguzor_load_made {
+    uint8_t number; /* 0: the log is written; else that of the refusal, and the buffer is as it was */
+    size_t offset; /* 0, also for a refusal */
+    size_t length; /* how many bytes are written; 0 for a refusal */
+} bilguzor_load_made;
+
 /* A session: 4172 bytes, none of them padding, which may be copied. It comes from bilguzor_open alone, and only bilguzor_session_take (or
  * bilguzor_take) and bilguzor_take_all change it. */
 typedef struct bilguzor_session {
@@ -200,6 +215,15 @@ static inline bilguzor_answer bilguzor_session_take(
  * too. A loop over bilguzor_session_take does the same to each session, and with 12 patterns of three slots it was measured to be 14 times as fast. */
 bilguzor_row_report bilguzor_take_all(bilguzor_session *row, size_t row_size, bilguzor_event event);
 
+/* Writes at the start of the buffer the load of a seed and a count: a log of so many events, always the same, on every machine. Each event takes one step
+ * of a state of 32 bits, which begins as the seed: it becomes 1664525 times itself plus 1013904223, of which the low 32 bits are kept. Its bits 31 and 30
+ * are the event's thread, 29 and 28 its kind (0 a read, 1 a write, 2 or 3 a mark), 27 to 25 its variable or mark, and bits 11 to 0 minus 2048 the height of
+ * a write. The log is always accepted. Bytes of the buffer after it stay as they were.
+ *
+ * A count above BILGUZOR_EVENTS is refused with 22, and then a buffer that is too short for the whole log with 15; no byte of it is changed. It is in
+ * libbilguzor_load.a, which needs none of the others. */
+bilguzor_load_made bilguzor_load(uint32_t seed, size_t count, uint8_t *buffer, size_t buffer_size);
+
 /* What the session has found in the events taken so far: BILGUZOR_YES or BILGUZOR_NO; it refuses nothing. */
 static inline bilguzor_judgement bilguzor_session_verdict(const bilguzor_session *session);
 
@@ -244,6 +268,7 @@ BILGUZOR_ASSERT_SIZE(bilguzor_ordering, 16);
 BILGUZOR_ASSERT_SIZE(bilguzor_answer, 16);
 BILGUZOR_ASSERT_SIZE(bilguzor_event, 16);
 BILGUZOR_ASSERT_SIZE(bilguzor_row_report, 32);
+BILGUZOR_ASSERT_SIZE(bilguzor_load_made, 24);
 BILGUZOR_ASSERT_SIZE(bilguzor_session, 4172);
 BILGUZOR_ASSERT_SIZE(bilguzor_opening, 4200);
 

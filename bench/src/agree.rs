@@ -14,6 +14,7 @@ const DAMAGED: usize = 16000;
 const PATTERNS: usize = 8000;
 const DEEP: usize = 400;
 const ROWS: usize = 20000;
+const LOADS: usize = 2000;
 
 #[derive(Default)]
 struct Totals {
@@ -27,6 +28,7 @@ struct Totals {
     replays: usize,
     rows: usize,
     divided: usize,
+    loads: usize,
 }
 
 /// Whether one event, counted from 0, comes before another or is it.
@@ -191,6 +193,21 @@ impl Totals {
             assert_eq!(buffer, [written, &rest].concat(), "replay: {pattern:02x?} {log:02x?}");
         }
         self.replays += usize::from(!wanted.is_empty());
+    }
+
+    /// The load into a buffer with a byte more than it has, with as many, and with one fewer; what it does not write stays as it was.
+    fn hold_load(&mut self, seed: u32, count: usize) {
+        let wanted = reference::load(seed, count);
+        for size in [wanted.len() + 1, wanted.len(), wanted.len() - 1] {
+            let mut buffer = vec![0xAA; size];
+            let short = size < wanted.len();
+            let answer = if short { Err(Refusal { number: 15, offset: 0 }) } else { Ok(wanted.len()) };
+            assert_eq!(ffi::load(seed, count, &mut buffer), answer, "load: {seed} {count}");
+            let written = if short { &[] } else { &wanted[..] };
+            let rest = vec![0xAA; size - written.len()];
+            assert_eq!(buffer, [written, &rest].concat(), "load: {seed} {count}");
+        }
+        self.loads += 1;
     }
 
     /// A few order queries of an accepted log, one of them past its end.
@@ -496,15 +513,31 @@ fn whole(totals: &mut Totals) {
         assert_eq!(ffi::run(&input.pattern, &input.log).outcome, found(count), "{} {} {}", input.load, input.slots, input.ending);
         totals.hold(&input.pattern, &input.log);
     }
-    for (seed, events) in [(0, EVENTS), (1, EVENTS), (0, EVENTS + 1), (1, EVENTS + 1)] {
-        let input = load::input("Note 11", 5, "never", 1);
-        totals.hold(&input.pattern, &load::note_11(seed, events));
+    let input = load::input("Note 11", 5, "never", 1);
+    for seed in [0, 1] {
+        let mut log = load::note_11(seed, EVENTS);
+        totals.hold(&input.pattern, &Bytes(log.0.clone()).close());
+        log.mark(0, 0);
+        totals.hold(&input.pattern, &log.close());
+    }
+}
+
+/// Loads of drawn seeds, some with as many events as a log may have; and counts above that, which are refused before the buffer is looked at.
+fn loads(totals: &mut Totals, steps: &mut Steps) {
+    for n in 0..LOADS {
+        let count = if n < 8 { EVENTS - n / 4 } else { steps.below(400) as usize };
+        totals.hold_load(steps.next(), count);
+    }
+    for count in [EVENTS + 1, 2 * EVENTS, 1 << 32, usize::MAX] {
+        let mut buffer = [0xAA; 4];
+        assert_eq!(ffi::load(0, count, &mut buffer), Err(Refusal { number: 22, offset: 0 }), "load of {count}");
+        assert_eq!(buffer, [0xAA; 4], "load of {count}");
     }
 }
 
 /// The first event of Note 11; the example of the formats' document; and the same with two events that fit the second slot.
 fn examples() {
-    assert_eq!(load::note_11(0, 1), [7, 0, 6, 0, 0]);
+    assert_eq!(load::note_11(0, 1).close(), [7, 0, 6, 0, 0]);
     let pattern = [2, 0, 0, 7, 1, 11, 0, 0];
     let one = [7, 1, 11, 0, 2, 0, 0, 0x70, 0xFE, 0xFF, 0xFF, 0];
     let two = [7, 1, 11, 0, 7, 1, 11, 0, 2, 0, 0, 0x70, 0xFE, 0xFF, 0xFF, 0];
@@ -528,10 +561,12 @@ pub fn all() {
     patterns(&mut totals, &mut steps);
     rows(&mut totals, &mut steps);
     whole(&mut totals);
-    let Totals { inputs, matches, nones, refused, handed, verdicts, queries, replays, rows, divided } = totals;
+    loads(&mut totals, &mut steps);
+    let Totals { inputs, matches, nones, refused, handed, verdicts, queries, replays, rows, divided, loads } = totals;
     let numbers: Vec<String> = (1..15).chain([17]).map(|k| format!("{k}: {}", refused[k])).collect();
     println!("Agreement: {inputs} inputs, (a) to (e) each as the independent implementation says: {matches} match, {nones} none,");
     println!("{} refused (by number, {}). (a) and (e) name the first list each time.", refused.iter().sum::<usize>(), numbers.join(", "));
     println!("Sessions: {handed} events handed over, {verdicts} verdicts looked at; {queries} order queries. {replays} replays, byte by byte.");
-    println!("Rows of 0 to {} sessions: {rows} events, {divided} refused by some and taken by others; each as alone, byte by byte.\n", ROW + 1);
+    println!("Rows of 0 to {} sessions: {rows} events, {divided} refused by some and taken by others; each as alone, byte by byte.", ROW + 1);
+    println!("{loads} loads, each byte as the rule says, in buffers of three sizes.\n");
 }

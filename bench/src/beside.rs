@@ -1,7 +1,8 @@
-// Times what stands beside the run alone: a replay and an order query, and a row of sessions.
+// Times what stands beside the run alone: a replay and an order query, a row of sessions, and making a load.
 use crate::contest;
 use crate::ffi::{self, Session};
 use crate::load::{self, Input};
+use crate::reference;
 use crate::time::{thread_time, ROUNDS};
 use crate::verdict::{Outcome, EVENTS};
 use std::hint::black_box;
@@ -99,7 +100,25 @@ fn rows() {
     }
 }
 
+/// The least time of making the load in ns an event, by the library's call and by the rule in plain Rust, and of a run over it, the three in turns, as
+/// Markdown.
+fn loads() {
+    println!("\n| load | library | plain Rust | run | library to Rust | library to run |\n|---|---|---|---|---|---|");
+    let input = load::input("Note 11", 3, "never", EVENTS);
+    let mut buffer = vec![0; ffi::ENOUGH];
+    let mut least = [f64::MAX; 3];
+    for _ in 0..ROUNDS {
+        let library = per_event(&input, || ffi::load(black_box(0), black_box(EVENTS), &mut buffer));
+        let rust = per_event(&input, || reference::load(black_box(0), black_box(EVENTS)));
+        let run = per_event(&input, || ffi::run(black_box(&input.pattern), black_box(&input.log)));
+        least = [least[0].min(library), least[1].min(rust), least[2].min(run)];
+    }
+    let [library, rust, run] = least;
+    println!("| Note 11 | {library:.1} | {rust:.1} | {run:.1} | {:.2} | {:.2} |", library / rust, library / run);
+}
+
 pub fn print() {
     replays_and_queries();
     rows();
+    loads();
 }

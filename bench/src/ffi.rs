@@ -1,5 +1,5 @@
 // The functions of the proved static library, declared as its C header has them, with one safe wrapper each.
-use crate::verdict::{found, Judged, Outcome, Refusal, Relation, LOCKS, SLOTS, THREADS, VARIABLES};
+use crate::verdict::{found, Judged, Outcome, Refusal, Relation, EVENTS, LOCKS, SLOTS, THREADS, VARIABLES};
 
 #[repr(C)]
 struct Judgement {
@@ -29,6 +29,13 @@ struct Answer {
     offset: usize,
 }
 
+#[repr(C)]
+struct Load {
+    number: u8,
+    offset: usize,
+    length: usize,
+}
+
 /// An event in numbers, whatever they are.
 #[repr(C)]
 #[derive(Clone, Copy, Debug)]
@@ -54,6 +61,9 @@ const STATE: usize = THREADS + 2 * LOCKS;
 
 /// The most sessions that a row has.
 pub const ROW: usize = 16;
+
+/// Enough bytes for every load.
+pub const ENOUGH: usize = 7 * EVENTS + 1;
 
 /// What became of an event in a row: how many sessions refused it, the lowest place, from 1, that did, and the number of its refusal.
 #[repr(C)]
@@ -87,7 +97,7 @@ struct Opening {
 }
 
 const _: () = assert!(size_of::<Session>() == 4172 && size_of::<Opening>() == 4200);
-const _: () = assert!(size_of::<Event>() == 16 && size_of::<RowReport>() == 32);
+const _: () = assert!(size_of::<Event>() == 16 && size_of::<RowReport>() == 32 && size_of::<Load>() == 24);
 
 extern "C" {
     fn bilguzor_run(pattern: *const u8, pattern_size: usize, log: *const u8, log_size: usize) -> Judgement;
@@ -100,6 +110,7 @@ extern "C" {
         buffer_size: usize,
     ) -> Replayed;
     fn bilguzor_order(log: *const u8, log_size: usize, first: usize, second: usize) -> Ordering;
+    fn bilguzor_load(seed: u32, count: usize, buffer: *mut u8, buffer_size: usize) -> Load;
     fn bilguzor_open(pattern: *const u8, pattern_size: usize) -> Opening;
     fn bilguzor_take(
         slots: *const u32,
@@ -153,6 +164,16 @@ pub fn order(log: &[u8], first: usize, second: usize) -> Result<Relation, Refusa
         7 => Ok(Relation::After),
         8 => Ok(Relation::Free),
         _ => Err(Refusal { number: answer.number, offset: answer.offset }),
+    }
+}
+
+/// The load of a seed and a count at the start of the buffer: how many bytes it has.
+pub fn load(seed: u32, count: usize, buffer: &mut [u8]) -> Result<usize, Refusal> {
+    // Safe: the slice is lent for the call with its length.
+    let load = unsafe { bilguzor_load(seed, count, buffer.as_mut_ptr(), buffer.len()) };
+    match load.number {
+        0 => Ok(load.length),
+        number => Err(Refusal { number, offset: load.offset }),
     }
 }
 

@@ -1,4 +1,5 @@
 // The inputs that are timed: six loads, each with patterns of 1, 3 and 5 slots that match late or never.
+use crate::ffi::{self, ENOUGH};
 use crate::verdict::EVENTS;
 
 /// A pattern and a log, both as bytes.
@@ -45,7 +46,7 @@ impl Bytes {
     }
 }
 
-/// The generator of Note 11: one step per event.
+/// Numbers drawn for the other loads, by the step of Note 11.
 pub struct Steps(pub u32);
 
 impl Steps {
@@ -60,26 +61,12 @@ impl Steps {
     }
 }
 
-/// The load of Note 11, not closed.
-fn note_11_events(seed: u32, count: usize) -> Bytes {
-    let mut steps = Steps(seed);
-    let mut log = Bytes::default();
-    for _ in 0..count {
-        let s = steps.next();
-        let thread = (s >> 30) as u8;
-        let object = (s >> 25 & 7) as u8;
-        match s >> 28 & 3 {
-            0 => log.plain(1, thread, object),
-            1 => log.write(thread, object, (s & 4095) as i32 - 2048),
-            _ => log.mark(thread, object as u16),
-        }
-    }
-    log
-}
-
-/// The load of Note 11 as a whole log.
-pub fn note_11(seed: u32, count: usize) -> Vec<u8> {
-    note_11_events(seed, count).close()
+/// The load of Note 11 by the library's own call, not closed.
+pub fn note_11(seed: u32, count: usize) -> Bytes {
+    let mut log = vec![0; ENOUGH];
+    let length = ffi::load(seed, count, &mut log).expect("a buffer of that size has room for every load");
+    log.truncate(length - 1);
+    Bytes(log)
 }
 
 /// Puts the event of a slot, counted from 0 among five. A pattern has the last ones.
@@ -242,7 +229,7 @@ pub fn input(load: &'static str, slots: usize, ending: &'static str, count: usiz
     let late = ending == "late";
     let before = count - usize::from(late);
     let mut log = match load {
-        "Note 11" => note_11_events(0, before),
+        "Note 11" => note_11(0, before),
         "dense" => dense(slots, before),
         "staged" => staged(slots, before),
         "sparse" => mostly_unfit(&before_last(slots), before),

@@ -1,4 +1,5 @@
-/* A session that is handed its events one by one, rows of sessions, runs over whole logs, a replay, and order queries, through libbilguzor.a. */
+/* A session that is handed its events one by one, rows of sessions, runs over whole logs, a replay, order queries, and loads, through libbilguzor.a and the
+ * two libraries beside it. */
 #include <stdio.h>
 #include <string.h>
 
@@ -182,6 +183,35 @@ static void orders(void)
     print_ordering("1 and 2", bilguzor_order(held_log, sizeof held_log, 1, 2));
 }
 
+static size_t print_load(uint32_t seed, size_t count, uint8_t *buffer, size_t size)
+{
+    bilguzor_load_made l = bilguzor_load(seed, count, buffer, size);
+    printf("load of seed %u, count %zu in %zu bytes: ", (unsigned)seed, count, size);
+    if (l.number != 0) {
+        printf("refused %u at %zu, ", l.number, l.offset);
+    }
+    printf("%zu written:", l.length);
+    for (size_t i = 0; i < l.length && i < 12; i++) {
+        printf(" %02X", buffer[i]);
+    }
+    printf("\n");
+    return l.length;
+}
+
+static void loads(void)
+{
+    /* thread 1 mark 7, thread 0 mark 6 */
+    static const uint8_t marks[] = { 7, 1, 7, 0, 7, 0, 6, 0, 0 };
+    static uint8_t buffer[BILGUZOR_LOAD_SIZE];
+    print_load(0, 0, buffer, 1);
+    print_load(0, 1, buffer, 5);
+    print_load(0, 1, buffer, 4);
+    print_load(UINT32_MAX, 2, buffer, 100);
+    print_load(0, BILGUZOR_EVENTS + 1, buffer, 0);
+    size_t length = print_load(0, BILGUZOR_EVENTS, buffer, sizeof buffer);
+    print_judgement("run over the load", bilguzor_run(marks, sizeof marks, buffer, length));
+}
+
 int main(void)
 {
     printf("version %u%s\n", (unsigned)bilguzor_version(), bilguzor_version() == BILGUZOR_VERSION ? "" : ", which is not the header's");
@@ -191,5 +221,6 @@ int main(void)
     runs();
     replays();
     orders();
+    loads();
     return 0;
 }

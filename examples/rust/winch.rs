@@ -1,4 +1,5 @@
-// A session that is handed its events one by one, rows of sessions, runs over whole logs, a replay, and order queries, through libbilguzor.a.
+// A session that is handed its events one by one, rows of sessions, runs over whole logs, a replay, order queries, and loads, through libbilguzor.a and the
+// two libraries beside it.
 // `bilguzor.h` says what each function answers; the declarations below are the same.
 #[repr(C)]
 struct Judgement {
@@ -45,6 +46,13 @@ struct RowReport {
     place: usize,
 }
 
+#[repr(C)]
+struct LoadMade {
+    number: u8,
+    offset: usize,
+    length: usize,
+}
+
 // The limits of threads, variables and locks, and with them how many numbers the parts of a session have.
 const THREADS: usize = 16;
 const VARIABLES: usize = 32;
@@ -81,6 +89,7 @@ const _: () = assert!(std::mem::size_of::<Ordering>() == 16);
 const _: () = assert!(std::mem::size_of::<Answer>() == 16);
 const _: () = assert!(std::mem::size_of::<Event>() == 16);
 const _: () = assert!(std::mem::size_of::<RowReport>() == 32);
+const _: () = assert!(std::mem::size_of::<LoadMade>() == 24);
 const _: () = assert!(std::mem::size_of::<Session>() == 4172);
 const _: () = assert!(std::mem::size_of::<Opening>() == 4200);
 
@@ -110,6 +119,7 @@ extern "C" {
         height: i32,
     ) -> Answer;
     fn bilguzor_take_all(row: *mut Session, row_size: usize, event: Event) -> RowReport;
+    fn bilguzor_load(seed: u32, count: usize, buffer: *mut u8, buffer_size: usize) -> LoadMade;
     fn bilguzor_verdict(size: u32, table: &[u16; TABLE], count: u16) -> Judgement;
     fn bilguzor_version() -> u32;
 }
@@ -118,6 +128,10 @@ const VERSION: u32 = 6;
 
 // The most sessions that a row has.
 const ROW: usize = 16;
+
+// The most events that a log has, and enough bytes for every load.
+const EVENTS: usize = 65535;
+const LOAD_SIZE: usize = 7 * EVENTS + 1;
 
 const NO: u8 = 0;
 const YES: u8 = 1;
@@ -153,6 +167,10 @@ fn open(pattern: &[u8]) -> Opening {
 
 fn take_all(row: &mut [Session], event: Event) -> RowReport {
     unsafe { bilguzor_take_all(row.as_mut_ptr(), row.len(), event) }
+}
+
+fn load(seed: u32, count: usize, buffer: &mut [u8]) -> LoadMade {
+    unsafe { bilguzor_load(seed, count, buffer.as_mut_ptr(), buffer.len()) }
 }
 
 impl Session {
@@ -336,6 +354,33 @@ fn orders() {
     print_ordering("1 and 2", &order(&HELD_LOG, 1, 2));
 }
 
+fn print_load(seed: u32, count: usize, buffer: &mut [u8]) -> usize {
+    let l = load(seed, count, buffer);
+    print!("load of seed {seed}, count {count} in {} bytes: ", buffer.len());
+    if l.number != 0 {
+        print!("refused {} at {}, ", l.number, l.offset);
+    }
+    print!("{} written:", l.length);
+    for b in buffer[..l.length].iter().take(12) {
+        print!(" {b:02X}");
+    }
+    println!();
+    l.length
+}
+
+fn loads() {
+    // thread 1 mark 7, thread 0 mark 6
+    let marks = [7, 1, 7, 0, 7, 0, 6, 0, 0];
+    let mut buffer = vec![0; LOAD_SIZE];
+    print_load(0, 0, &mut buffer[..1]);
+    print_load(0, 1, &mut buffer[..5]);
+    print_load(0, 1, &mut buffer[..4]);
+    print_load(u32::MAX, 2, &mut buffer[..100]);
+    print_load(0, EVENTS + 1, &mut buffer[..0]);
+    let length = print_load(0, EVENTS, &mut buffer);
+    print_judgement("run over the load", &run(&marks, &buffer[..length]));
+}
+
 fn main() {
     let version = unsafe { bilguzor_version() };
     println!("version {version}{}", if version == VERSION { "" } else { ", which is not the header's" });
@@ -345,4 +390,5 @@ fn main() {
     runs();
     replays();
     orders();
+    loads();
 }

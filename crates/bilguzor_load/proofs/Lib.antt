@@ -1,0 +1,2 @@
+-- What the numbers of an answer tell.
+pub mod Loads

@@ -1,0 +1,2 @@
+-- A load in numbers.
+pub mod LoadNumbers
