@@ -4,3 +4,4 @@ pub mod Limits
 pub mod Range
 pub mod Effects
 pub mod Updated
+pub mod Places
