@@ -1,5 +1,6 @@
 -- Laws of dependence.
 pub mod Sameness
+pub mod Decided
 pub mod Dependent
 pub mod ByChannels
 pub mod Acceptance

@@ -2,3 +2,4 @@
 pub mod Dependence
 pub mod Order
 pub mod Channels
+pub mod Numbered

@@ -38,29 +38,34 @@ module _ {E : Type 0} (other : E) (log : List E) where
   map-numbered (Each.more n c) = ap₂ _∷_ (sym (numbered-at other n)) (map-numbered c)
 
 module _ {E : Type 0} (other : E) (dep : E → E → Bool) (log : List E) where
-  reached-order : {ys : List E} → Reaches dep log ys → (is : List ℕ) × Order dep log is ys
-  reached-order r =
-      let h = lift-reaches dep (eventAt other log) r (run 1 (length log)) (sym (run-events other log)) in
-      let g = reaches-iff (depAt other dep log) (length log) (h .0) .0 (h .1) in
-      let among : (i : ℕ) → Mem i (h .0) → Among (length log) i = λ i m. among-of (length log) (perm-mem (perm-sym (g .0)) m) in (
-        h .0,
-        record {
-          numbers = subst (Each (Numbered log) (h .0)) (sym (h .2)) (numbered-map other log (h .0) among);
-          all = g .0;
-          kept = pairs-map (λ x y m k d b. d (comes-before other dep log b)) (g .1);
-        },
-      )
+  -- a rearrangement of the numbers that turns round no pair is the events' of those numbers
+  pub numbers-order : {is : List ℕ} → Perm (run 1 (length log)) is × Apart (depAt other dep log) is
+      → Order dep log is (map (eventAt other log) is)
+  numbers-order {is} g =
+      record {
+        numbers = numbered-map other log is (λ i m. among-of (length log) (perm-mem (perm-sym (g .0)) m));
+        all = g .0;
+        kept = pairs-map (λ x y m k d b. d (comes-before other dep log b)) (g .1);
+      }
 
-  order-reached : {is : List ℕ} {ys : List E} → Order dep log is ys → Reaches dep log ys
-  order-reached {is} h =
-      let r = reaches-iff (depAt other dep log) (length log) is .1 (h .all, apart) in
-      rw (map-numbered other log (h .numbers)) (rw run-events at (map-reaches dep (eventAt other log) r))
+  pub order-numbers : {is : List ℕ} {ys : List E} → Order dep log is ys
+      → Perm (run 1 (length log)) is × Apart (depAt other dep log) is
+  order-numbers {is} h =
+      (h .all, pairs-map (λ x y m k d b. d (before-comes other dep log (among y k .0) (among x m .1) b)) (h .kept))
     where
       among : (i : ℕ) → Mem i is → Among (length log) i
       among i m = among-of (length log) (perm-mem (perm-sym (h .all)) m)
 
-      apart : Apart (depAt other dep log) is
-      apart = pairs-map (λ x y m k d b. d (before-comes other dep log (among y k .0) (among x m .1) b)) (h .kept)
+  reached-order : {ys : List E} → Reaches dep log ys → (is : List ℕ) × Order dep log is ys
+  reached-order r =
+      let h = lift-reaches dep (eventAt other log) r (run 1 (length log)) (sym (run-events other log)) in
+      let g = reaches-iff (depAt other dep log) (length log) (h .0) .0 (h .1) in
+      (h .0, subst (Order dep log (h .0)) (sym (h .2)) (numbers-order g))
+
+  order-reached : {is : List ℕ} {ys : List E} → Order dep log is ys → Reaches dep log ys
+  order-reached {is} h =
+      let r = reaches-iff (depAt other dep log) (length log) is .1 (order-numbers h) in
+      rw (map-numbered other log (h .numbers)) (rw run-events at (map-reaches dep (eventAt other log) r))
 
 module _ {E : Type 0} (dep : E → E → Bool) where
   -- Swaps reach an order exactly where it is one of these.

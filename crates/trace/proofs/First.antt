@@ -22,7 +22,7 @@ use Rattle.trace.proofs.FirstChoice.{Chosen, Stuck, choose, chosen-good
 
 -- ---- smaller at the first place where they differ
 
-smaller-turned : {is js : List ℕ} → Smaller is js → ¬ Smaller js is
+pub smaller-turned : {is js : List ℕ} → Smaller is js → ¬ Smaller js is
 smaller-turned (here l) (here h) = omega arith
 smaller-turned (here l) (later r) = omega arith
 smaller-turned (later r) (here h) = omega arith

@@ -20,6 +20,10 @@ use Rattle.trace.proofs.Swaps.{perm-mem, swap-mem, swap-mem⁻, reaches
 use Rattle.trace.proofs.Runs.{run, among-of, of-among, run-rises}
 use Rattle.trace.proofs.Before.{before-le, before-one}
 
+-- the same numbers, in whatever order
+abbrev pub Same : List ℕ → List ℕ → Type 0
+Same xs ys = (k : ℕ) → Mem k xs ↔ Mem k ys
+
 module _ (dep : ℕ → ℕ → Bool) where
   -- ---- swaps turn round no pair
 
@@ -100,30 +104,41 @@ module _ (dep : ℕ → ℕ → Bool) where
       nothing (z ∷ zs) d = rw (ne-eqb y z (d z (head refl))) (nothing zs (λ u m. d u (tail m)))
   only y (x ∷ xs) p (tail m) = rw (ne-eqb y x (λ e. let h = pairs-head p y m in omega arith)) (only y xs (pairs-tail p) m)
 
+  -- no number stands behind itself, nor behind a larger one that depends on it
+  abbrev pub Straight : List ℕ → Type 0
+  Straight = Pairs (λ x y. (¬ (x ≡ y)) × (y < x → dep y x ≡ false))
+
+  apart-straight : {ys : List ℕ} → Apart dep ys → Straight ys
+  apart-straight =
+      pairs-map (λ x y m k d. (λ e. d (rw e same), λ l. failed (dep y x) (λ t. d (before-one dep l t))))
+
+  perm-same : {xs ys : List ℕ} → Perm xs ys → Same xs ys
+  perm-same p k = (perm-mem p, perm-mem (perm-sym p))
+
   -- Bring the wanted order's first number to the front, and go on with the others behind it.
-  reach : (ys : List ℕ) {xs : List ℕ} → Pairs (λ x z. x < z) xs → Apart dep ys → ((k : ℕ) → Mem k xs → Mem k ys)
-      → ((k : ℕ) → Mem k ys → Mem k xs) → Reaches dep xs ys
-  reach [] {xs = xs} p a there back = empty xs there
+  reach : (ys : List ℕ) {xs : List ℕ} → Pairs (λ x z. x < z) xs → Straight ys → Same xs ys → Reaches dep xs ys
+  reach [] {xs = xs} p a s = empty xs s
     where
-      empty : (xs : List ℕ) → ((k : ℕ) → Mem k xs → Mem k []) → Reaches dep xs []
+      empty : (xs : List ℕ) → Same xs [] → Reaches dep xs []
       empty [] t = stay
-      empty (x ∷ xs) t = absurd (not-mem-nil (t x (head refl)))
-  reach (y ∷ ys) {xs = xs} p a there back =
-      reaches-trans dep first (reaches-later dep (reach ys (pairs-filter (λ x. not (eqb y x)) p) (pairs-tail a) others others⁻))
+      empty (x ∷ xs) t = absurd (not-mem-nil (t x .0 (head refl)))
+  reach (y ∷ ys) {xs = xs} p a s =
+      reaches-trans dep first
+      (reaches-later dep (reach ys (pairs-filter (λ x. not (eqb y x)) p) (pairs-tail a) (λ k. (others k, others⁻ k))))
     where
-      -- a number of the list that y depends on would stand behind y in the wanted order
+      -- a smaller number of the list stands behind y in the wanted order
       clear : (x z : ℕ) → Mem x xs → Mem z xs → x < z → eqb y x ≡ false → eqb y z ≡ true → dep x z ≡ false
-      clear x z m k l f t = failed (dep x z) (λ d. turned (there x m) (rw (sym (eqb-true y z t)) at (before-one dep l d)))
+      clear x z m k l f t = rw (sym (eqb-true y z t)) (behind (s x .0 m) (rw (sym (eqb-true y z t)) at l))
         where
-          turned : Mem x (y ∷ ys) → Before dep x y → ⊥
-          turned (head e) b = eqb-false y x f (sym e)
-          turned (tail m′) b = pairs-head a x m′ b
+          behind : Mem x (y ∷ ys) → x < y → dep x y ≡ false
+          behind (head e) h = absurd (eqb-false y x f (sym e))
+          behind (tail m′) h = pairs-head a x m′ .1 h
 
       first : Reaches dep xs (y ∷ filter (λ x. not (eqb y x)) xs)
-      first = rw (only y xs p (back y (head refl))) at (to-front dep (eqb y) (pairs-map clear p))
+      first = rw (only y xs p (s y .1 (head refl))) at (to-front dep (eqb y) (pairs-map clear p))
 
       others : (k : ℕ) → Mem k (filter (λ x. not (eqb y x)) xs) → Mem k ys
-      others k m = go (there k (r .0))
+      others k m = go (s k .0 (r .0))
         where
           r : Mem k xs × (not (eqb y k) ≡ true)
           r = mem-of-filter (λ x. not (eqb y x)) xs m
@@ -133,12 +148,19 @@ module _ (dep : ℕ → ℕ → Bool) where
           go (tail m′) = m′
 
       others⁻ : (k : ℕ) → Mem k ys → Mem k (filter (λ x. not (eqb y x)) xs)
-      others⁻ k m = mem-filter (λ x. not (eqb y x)) xs (back k (tail m)) (ap not (ne-eqb y k (λ e. pairs-head a k m (rw e same))))
+      others⁻ k m = mem-filter (λ x. not (eqb y x)) xs (s k .1 (tail m)) (ap not (ne-eqb y k (pairs-head a k m .0)))
 
   -- The orders reached from the recorded one are exactly its rearrangements that turn round no pair
   -- of which one comes before the other.
   pub reaches-iff : (n : ℕ) (ys : List ℕ) → Reaches dep (run 1 n) ys ↔ (Perm (run 1 n) ys × Apart dep ys)
   reaches-iff n ys = (
     λ r. (reaches-perm dep r, reaches-apart n r),
-    λ h. reach ys (run-rises 1 n) (h .1) (λ k. perm-mem (h .0)) (λ k. perm-mem (perm-sym (h .0))),
+    λ h. reach ys (run-rises 1 n) (apart-straight (h .1)) (perm-same (h .0)),
+  )
+
+  -- It is enough that they turn round no pair of which one depends on the other.
+  pub straight-iff : (n : ℕ) (ys : List ℕ) → Reaches dep (run 1 n) ys ↔ (Straight ys × Same (run 1 n) ys)
+  straight-iff n ys = (
+    λ r. (apart-straight (reaches-apart n r), perm-same (reaches-perm dep r)),
+    λ h. reach ys (run-rises 1 n) (h .0) (h .1),
   )

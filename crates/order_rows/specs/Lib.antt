@@ -1,0 +1,2 @@
+-- Orders of at most eight events as rows of their numbers.
+pub mod Rows
