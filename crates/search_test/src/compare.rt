@@ -57,6 +57,15 @@ pub(crate) fn session_agrees(pattern: &[u8], log: &[u8], t: Truth, read: LogRead
     false
 }
 
+// Whether the run found a match.
+pub(crate) fn matched(judged: Judged) -> bool {
+    let outcome = judged.outcome;
+    match outcome {
+        Outcome::Match { count: _ } => true,
+        _ => false,
+    }
+}
+
 fn opened_well(o: Opened, t: Truth) -> bool {
     let answer = o.answer;
     let k = t.sketch;
@@ -82,7 +91,7 @@ fn refusal_agrees(a: Answer, read: LogRead, at: usize) -> bool {
     }
 }
 
-fn refused_with(read: LogRead, k: u8, at: usize) -> bool {
+pub(crate) fn refused_with(read: LogRead, k: u8, at: usize) -> bool {
     match read {
         LogRead::Accepted { events: _ } => false,
         LogRead::LogRefused { number, offset } => number == k && offset == at,

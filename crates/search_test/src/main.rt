@@ -1,8 +1,9 @@
-// Holds runs, sessions, replays and order queries to a plain search through all orders of many small logs, and prints how many were compared.
+// Holds runs, sessions, replays, order queries and listed orders to a plain search through all orders of many small logs, and prints how many were compared.
 mod compare;
 mod first;
 mod grouped;
 mod known;
+mod listed;
 mod locks;
 mod orders;
 mod pairs;
@@ -105,7 +106,8 @@ fn compared(
     tally::add_if(counts, tally::DISAGREEMENTS, !agreed);
     let first = first::agrees(judged, t, counts);
     let replayed = replays::agree(queue, seen, pattern, log, t, judged, counts);
-    if !(agreed && first && replayed) {
+    let listed = listed::agree(queue, seen, log, t, read, judged, counts);
+    if !(agreed && first && replayed && listed) {
         disagreement(pattern, log);
     }
 }

@@ -29,6 +29,40 @@ pub(crate) fn search(queue: &mut [u32], seen: &mut [bool], q: Question) -> Searc
     s
 }
 
+// Goes through all orders, whether they hold the slots or not, and answers how many there are. They stay marked in `seen`.
+pub(crate) fn all(queue: &mut [u32], seen: &mut [bool], q: Question) -> usize {
+    let events = q.events;
+    let slots = q.slots;
+    let s = explore(
+        queue,
+        seen,
+        Question {
+            events,
+            count: q.count,
+            slots,
+            size: MOST + 1,
+        },
+    );
+    s.found
+}
+
+// Whether the order was found: the mark tells all places but the first, and the sum tells that.
+pub(crate) fn marked(seen: &[bool], order: [usize; 7]) -> bool {
+    let mark = number_of(order) as usize % MARKS;
+    if mark < seen.len() {
+        return seen[mark] && sum(order) == 21;
+    }
+    false
+}
+
+fn sum(order: [usize; 7]) -> usize {
+    let mut n: usize = 0;
+    for i in 0..7 {
+        n = n % 64 + order[i] % 8;
+    }
+    n
+}
+
 fn explore(queue: &mut [u32], seen: &mut [bool], q: Question) -> Searched {
     let mut found = enqueue(queue, seen, number_of([0, 1, 2, 3, 4, 5, 6]), 0);
     for head in 0..ORDERS {
@@ -109,7 +143,7 @@ fn swapped(order: [usize; 7], i: usize) -> [usize; 7] {
 }
 
 // Whether the order holds the slots: from the left, each slot is filled by the first event that fits it.
-fn holds(order: [usize; 7], q: Question) -> bool {
+pub(crate) fn holds(order: [usize; 7], q: Question) -> bool {
     let mut slot: usize = 0;
     for i in 0..7 {
         slot = filled(q, slot, i, order[i]);
@@ -179,7 +213,7 @@ fn enqueue(queue: &mut [u32], seen: &mut [bool], order: u32, tail: usize) -> usi
 }
 
 // Forgets the orders before the end of the queue.
-fn clear(queue: &[u32], seen: &mut [bool], tail: usize) {
+pub(crate) fn clear(queue: &[u32], seen: &mut [bool], tail: usize) {
     for i in 0..tail {
         forget(seen, at(queue, i) as usize % MARKS);
     }

@@ -49,9 +49,11 @@ pub const PAIRS: usize = 31;
 
 pub const REPLAYS: usize = 38;
 
-const AGAIN: usize = 47;
+pub const LISTED: usize = 47;
 
-const ACTING: usize = 50;
+const AGAIN: usize = 51;
+
+const ACTING: usize = 54;
 
 const CHILDREN: usize = ACTING + THREADS;
 

@@ -54,6 +54,8 @@ fn answer(q: Asked, bytes: &[u8], other: &[u8]) {
         b'v' => judged::run(bytes, other),
         b'm' => judged::more(commands::of(bytes, true), other, q.second),
         b'p' => judged::replay(bytes, other, q.second),
+        // given: LOG; given-after: LOG | ORDER
+        b'g' => judged::given(q.tall, bytes, other),
         _ => console::text(b"NO SUCH WORD"),
     }
 }

@@ -1,8 +1,10 @@
-// What order queries, runs, sessions and replays say.
+// What order queries, runs, sessions, replays and the calls for orders say.
 use crate::commands;
 use command::Decoded;
 use event::Event;
 use order_query::Order;
+use orders_log::Given;
+use orders_log::GivenRow;
 use relation::Relation;
 use run::Judged;
 use run::Outcome;
@@ -10,6 +12,9 @@ use session::Answer;
 use session::Found;
 use session::Session;
 use session::Verdict;
+ghost use mathlib.Core.Path.{_≡_};
+ghost use lib.ListN.{length};
+ghost use Rattle.order_rows.specs.Rows.{orderPlaces};
 
 // How one event of the log stands to another.
 pub(crate) fn order(log: &[u8], first: usize, second: usize) {
@@ -30,6 +35,33 @@ fn show_relation(relation: Relation) {
         Relation::After => console::text(b"after"),
         Relation::Free => console::text(b"free"),
     }
+}
+
+// The first order of the log, or the one after a given one.
+pub(crate) fn given(first: bool, log: &[u8], order: &[u8]) {
+    if first {
+        show_given(orders_log::first(log));
+        return;
+    }
+    show_given(orders_log::next(log, order));
+}
+
+fn show_given(r: GivenRow)
+    requires { ⌜ length (r .row) ≡ orderPlaces ⌝ }
+{
+    let given = r.given;
+    let row = r.row;
+    match given {
+        Given::Order => console::text(b"order"),
+        Given::Last => console::text(b"last"),
+        Given::LogRefused { number, offset } => console::refusal(number, offset),
+        Given::OrdersRefused { number, offset } => {
+            console::text(b"orders ");
+            console::refusal(number, offset);
+        }
+    }
+    console::text(b",");
+    console::bytes(&row);
 }
 
 // What a run says, and what a session says once it has been handed the events before the first that can not be read.
