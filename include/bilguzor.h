@@ -1,5 +1,5 @@
-/* bilguzor: whether some order of the events of a log holds a pattern. The functions of libbilguzor.a, and of libbilguzor_row.a and
- * libbilguzor_load.a, for C and C++.
+/* bilguzor: whether some order of the events of a log holds a pattern. The functions of libbilguzor.a, and of libbilguzor_row.a,
+ * libbilguzor_load.a and libbilguzor_orders.a, for C and C++.
  *
  * Every function ends, traps on nothing and keeps no memory of its own: what is known of a session lies in the bilguzor_session that the
  * caller holds, so that threads may work at once, each on its own session. A pointer must not be NULL, even where its size is 0, and must lead to
@@ -45,6 +45,8 @@
  *   18  row: more than 16 sessions; looked for before any number of the event and any session, and the offset is 0
  *   22  load: a count above 65535; the offset is 0
  *   15  load: the buffer has fewer bytes than the whole log; looked for after 22, and the offset is 0
+ *   25  orders: a log of more than 8 events; looked for after the whole log has passed, and the offset is 0
+ *   26  orders: a given list that is no order of the log; looked for after 25, and the offset is 0
  */
 #ifndef BILGUZOR_H
 #define BILGUZOR_H
@@ -74,6 +76,9 @@ extern "C" {
 /* A buffer of so many bytes has room for the load of any seed and count. */
 #define BILGUZOR_LOAD_SIZE (7 * BILGUZOR_EVENTS + 1)
 
+/* How many places an order has, and so the most events of a log whose orders are gone through. */
+#define BILGUZOR_PLACES 8
+
 /* How many numbers each part of a session has: clocks of each thread, of the reads and of the writes of each variable, and of each lock; the table; and
  * of the rules one entry for each thread and two for each lock. */
 #define BILGUZOR_CLOCKS_LENGTH ((BILGUZOR_THREADS + 2 * BILGUZOR_VARIABLES + BILGUZOR_LOCKS) * BILGUZOR_THREADS)
@@ -101,7 +106,9 @@ enum bilguzor_kind {
     BILGUZOR_SAME = 5, /* one event, asked twice */
     BILGUZOR_BEFORE = 6, /* the first event comes before the second */
     BILGUZOR_AFTER = 7, /* the second event comes before the first */
-    BILGUZOR_FREE = 8 /* neither comes before the other */
+    BILGUZOR_FREE = 8, /* neither comes before the other */
+    BILGUZOR_ORDER = 9, /* the events are an order of the log */
+    BILGUZOR_LAST = 10 /* the given order was the last */
 };
 
 /* What a run, or a session so far, has found. 32 bytes. */
@@ -155,6 +162,15 @@ typedef struct bilguzor_load_made {
     size_t offset; /* 0, also for a refusal */
     size_t length; /* how many bytes are written; 0 for a refusal */
 } bilguzor_load_made;
+
+/* An order of a short log. 24 bytes. */
+typedef struct bilguzor_order_row {
+    uint8_t kind; /* BILGUZOR_ORDER, BILGUZOR_LAST, BILGUZOR_LOG_REFUSED or BILGUZOR_QUERY_REFUSED */
+    uint8_t number; /* of the refusal; 0 without one */
+    uint8_t events[BILGUZOR_PLACES]; /* of an order, the number of the event at each place, counted from 1; 0 beyond the log's events, and all 0 without an
+                                        order */
+    size_t offset; /* of the refusal; 0 without one */
+} bilguzor_order_row;
 
 /* A session: 4172 bytes, none of them padding, which may be copied. It comes from bilguzor_open alone, and only bilguzor_session_take (or
  * bilguzor_take) and bilguzor_take_all change it. */
@@ -224,6 +240,21 @@ bilguzor_row_report bilguzor_take_all(bilguzor_session *row, size_t row_size, bi
  * libbilguzor_load.a, which needs none of the others. */
 bilguzor_load_made bilguzor_load(uint32_t seed, size_t count, uint8_t *buffer, size_t buffer_size);
 
+/* The first order of a log of 0 to BILGUZOR_PLACES events: BILGUZOR_ORDER with the events 1, 2 and so on, which is how they were recorded. An order is
+ * what swaps of neighbours that do not depend on each other make of that list. The log without events has one order, with 0 at every place.
+ *
+ * A refused log answers BILGUZOR_LOG_REFUSED (3 to 14, or 17); one of more events then BILGUZOR_QUERY_REFUSED (25). This function and the next are in
+ * libbilguzor_orders.a, which needs none of the others. */
+bilguzor_order_row bilguzor_first_order(const uint8_t *log, size_t log_size);
+
+/* The order after a given one: BILGUZOR_ORDER, or BILGUZOR_LAST where there is none. Of two orders the one that is smaller at the first place where they
+ * differ comes first. Called with the first order, and then with the events of each answer, it gives every other order, each exactly once. There is one
+ * order where each event comes before the next, and there are 40320 of eight events that are all free of each other.
+ *
+ * The given list has BILGUZOR_PLACES numbers, as an answer has them. What bilguzor_first_order refuses is refused alike, whatever the list. A list that
+ * is no order of the log then answers BILGUZOR_QUERY_REFUSED (26), also one of fewer or more numbers, or with another than 0 beyond the log's events. */
+bilguzor_order_row bilguzor_next_order(const uint8_t *log, size_t log_size, const uint8_t *order, size_t order_size);
+
 /* What the session has found in the events taken so far: BILGUZOR_YES or BILGUZOR_NO; it refuses nothing. */
 static inline bilguzor_judgement bilguzor_session_verdict(const bilguzor_session *session);
 
@@ -269,6 +300,7 @@ BILGUZOR_ASSERT_SIZE(bilguzor_answer, 16);
 BILGUZOR_ASSERT_SIZE(bilguzor_event, 16);
 BILGUZOR_ASSERT_SIZE(bilguzor_row_report, 32);
 BILGUZOR_ASSERT_SIZE(bilguzor_load_made, 24);
+BILGUZOR_ASSERT_SIZE(bilguzor_order_row, 24);
 BILGUZOR_ASSERT_SIZE(bilguzor_session, 4172);
 BILGUZOR_ASSERT_SIZE(bilguzor_opening, 4200);
 

@@ -1,10 +1,10 @@
 // Holds everything that is timed to the independent implementation, on many random inputs, before anything is timed.
 use crate::contest;
-use crate::ffi::{self, RowReport, Session, ROW};
+use crate::ffi::{self, OrderRow, RowReport, Session, ROW};
 use crate::greedy;
 use crate::load::{self, Bytes, Steps};
 use crate::reference::{self, Event, Label, Past};
-use crate::verdict::{found, Judged, Outcome, Refusal, Relation, EVENTS, SLOTS, THREADS};
+use crate::verdict::{found, Judged, Outcome, Refusal, Relation, EVENTS, PLACES, SLOTS, THREADS};
 
 /// How many inputs of each kind.
 const SHORT: usize = 16000;
@@ -15,6 +15,10 @@ const PATTERNS: usize = 8000;
 const DEEP: usize = 400;
 const ROWS: usize = 20000;
 const LOADS: usize = 2000;
+const ORDERS: usize = 8000;
+
+/// How many lists are given for each log whose orders are gone through.
+const LISTS: usize = 12;
 
 #[derive(Default)]
 struct Totals {
@@ -29,6 +33,20 @@ struct Totals {
     rows: usize,
     divided: usize,
     loads: usize,
+    orders: Orders,
+}
+
+/// Logs whose orders are gone through, those of them that fill all places, their orders, and the logs with an order that holds the pattern; lists that are
+/// no order of their log; logs that are too long, and refused ones.
+#[derive(Default)]
+struct Orders {
+    logs: usize,
+    full: usize,
+    given: usize,
+    shown: usize,
+    unreached: usize,
+    long: usize,
+    refused: usize,
 }
 
 /// Whether one event, counted from 0, comes before another or is it.
@@ -144,6 +162,33 @@ fn replay_of(log: &[u8], e: &Expected) -> Vec<u8> {
     bytes
 }
 
+/// The orders that swaps reach, smallest first, by the event numbers at their places.
+fn all_orders(list: &[Label]) -> Vec<[u8; PLACES]> {
+    let numbered = |order: &Vec<usize>| {
+        let mut places = [0; PLACES];
+        for (place, e) in places.iter_mut().zip(order) {
+            *place = *e as u8 + 1;
+        }
+        places
+    };
+    reference::orders(list).iter().map(numbered).collect()
+}
+
+/// Whether one of the orders holds the pattern.
+fn shown(pattern: &[u8], list: &[Label], orders: &[[u8; PLACES]]) -> bool {
+    let slots = reference::read_pattern(pattern).expect("the pattern is a good one");
+    let events = |order: &[u8; PLACES]| order[..list.len()].iter().map(|&n| n as usize - 1).collect::<Vec<usize>>();
+    orders.iter().any(|order| reference::holds(&slots, list, &events(order)))
+}
+
+/// What is answered after a list, be it an order or none.
+fn after(orders: &[[u8; PLACES]], list: &[u8]) -> OrderRow {
+    match orders.iter().position(|order| order == list) {
+        Some(i) => orders.get(i + 1).map_or(OrderRow::LAST, |next| OrderRow::order(*next)),
+        None => OrderRow::query_refused(26),
+    }
+}
+
 /// What the floor answers where the whole checker answers this: it knows no pattern.
 fn without_pattern(log: &[u8]) -> Outcome {
     match reference::read_log(log) {
@@ -208,6 +253,46 @@ impl Totals {
             assert_eq!(buffer, [written, &rest].concat(), "load: {seed} {count}");
         }
         self.loads += 1;
+    }
+
+    /// What is answered about the orders of a log, whatever the log is; one that is refused is so with every list.
+    fn hold_orders(&mut self, steps: &mut Steps, pattern: &[u8], log: &[u8]) {
+        let (refusal, total) = match reference::read_log(log) {
+            Err(refusal) => (OrderRow::log_refused(refusal), &mut self.orders.refused),
+            Ok(events) if events.len() > PLACES => (OrderRow::query_refused(25), &mut self.orders.long),
+            Ok(events) => return self.go_through(steps, pattern, log, &labels(&events)),
+        };
+        *total += 1;
+        assert_eq!(ffi::first_order(log), refusal, "first order: {log:02x?}");
+        for _ in 0..LISTS {
+            let list = near(steps, &[[1, 2, 3, 4, 5, 6, 7, 8]]);
+            assert_eq!(ffi::next_order(log, &list), refusal, "order after {list:?}: {log:02x?}");
+        }
+    }
+
+    /// All orders by the library's calls, one after the other; the pattern is in one of them where the run says so. Then what is answered after lists that
+    /// lie near an order.
+    fn go_through(&mut self, steps: &mut Steps, pattern: &[u8], log: &[u8], events: &[Label]) {
+        let orders = all_orders(events);
+        let mut row = ffi::first_order(log);
+        for order in &orders {
+            assert_eq!(row, OrderRow::order(*order), "an order: {log:02x?}");
+            row = ffi::next_order(log, order);
+        }
+        assert_eq!(row, OrderRow::LAST, "after the last order: {log:02x?}");
+        let shown = shown(pattern, events, &orders);
+        let matched = matches!(ffi::run(pattern, log).outcome, Outcome::Match { .. });
+        assert_eq!(shown, matched, "some order and the run differ: {pattern:02x?} {log:02x?}");
+        for _ in 0..LISTS {
+            let list = near(steps, &orders);
+            let wanted = after(&orders, &list);
+            assert_eq!(ffi::next_order(log, &list), wanted, "order after {list:?}: {log:02x?}");
+            self.orders.unreached += usize::from(wanted == OrderRow::query_refused(26));
+        }
+        self.orders.logs += 1;
+        self.orders.full += usize::from(events.len() == PLACES);
+        self.orders.given += orders.len();
+        self.orders.shown += usize::from(shown);
     }
 
     /// A few order queries of an accepted log, one of them past its end.
@@ -370,6 +455,35 @@ fn damage(steps: &mut Steps, bytes: &mut Vec<u8>) {
     }
 }
 
+/// The bytes of a list with events put in that may break a rule, and spoilt where that is asked for.
+fn spoil(steps: &mut Steps, list: &mut Vec<Event>, bytes: bool) -> Vec<u8> {
+    for _ in 0..steps.below(3) {
+        let at = steps.below(list.len() as u32 + 1) as usize;
+        list.insert(at, event(steps, 4));
+    }
+    let mut log = bytes_of(list, true);
+    if bytes {
+        damage(steps, &mut log);
+    }
+    log
+}
+
+/// A list that lies near one of the orders, or is one: two places exchanged, mostly neighbours; a number twice, missing or any; fewer places or more.
+fn near(steps: &mut Steps, orders: &[[u8; PLACES]]) -> Vec<u8> {
+    let mut list = orders[steps.below(orders.len() as u32) as usize].to_vec();
+    let (i, j) = (steps.below(PLACES as u32) as usize, steps.below(PLACES as u32) as usize);
+    match steps.below(9) {
+        0..=2 => list.swap(i, (i + 1) % PLACES),
+        3 => list.swap(i, j),
+        4 => list[i] = list[j],
+        5 => list[i] = 0,
+        6 => list[i] = (steps.next() >> 24 >> steps.below(8)) as u8,
+        7 => list.truncate(i),
+        _ => list.extend(vec![list[i]; 1 + j / 4]),
+    }
+    list
+}
+
 /// Every event by its form up to the first that is refused for its form.
 fn by_form(log: &[u8]) -> Vec<Event> {
     let mut list = Vec::new();
@@ -414,14 +528,7 @@ fn damaged(totals: &mut Totals, steps: &mut Steps) {
         let size = steps.below(if n % 4 == 0 { 120 } else { 9 }) as usize;
         let mut list = good(steps, 4, size);
         let pattern = pattern_for(steps, &list);
-        for _ in 0..steps.below(3) {
-            let at = steps.below(list.len() as u32 + 1) as usize;
-            list.insert(at, event(steps, 4));
-        }
-        let mut log = bytes_of(&list, true);
-        if n % 2 == 0 {
-            damage(steps, &mut log);
-        }
+        let log = spoil(steps, &mut list, n % 2 == 0);
         totals.hold(&pattern, &log);
         totals.hand(&pattern, &by_form(&log));
     }
@@ -535,6 +642,26 @@ fn loads(totals: &mut Totals, steps: &mut Steps) {
     }
 }
 
+/// Orders of drawn logs, half of which fill all places; some are longer or spoilt. And of the log with the most orders, no event of which depends on
+/// another, and of the longest log.
+fn orders(totals: &mut Totals, steps: &mut Steps) {
+    for n in 0..ORDERS {
+        let size = if n % 2 == 0 { PLACES } else { steps.below(PLACES as u32 + 3) as usize };
+        let threads = if n % 100 == 0 { THREADS as u32 } else { 2 + steps.below(3) };
+        let mut list = good(steps, threads, size);
+        let pattern = pattern_for(steps, &list);
+        let log = if n % 4 == 1 { spoil(steps, &mut list, n % 8 == 1) } else { bytes_of(&list, true) };
+        totals.hold_orders(steps, &pattern, &log);
+    }
+    let mut free = Bytes::default();
+    for thread in 0..PLACES as u8 {
+        free.mark(thread, 0);
+    }
+    for log in [free, load::note_11(0, EVENTS)] {
+        totals.hold_orders(steps, &[7, 7, 0, 0, 7, 0, 0, 0, 0], &log.close());
+    }
+}
+
 /// The first event of Note 11; the example of the formats' document; and the same with two events that fit the second slot.
 fn examples() {
     assert_eq!(load::note_11(0, 1).close(), [7, 0, 6, 0, 0]);
@@ -562,11 +689,15 @@ pub fn all() {
     rows(&mut totals, &mut steps);
     whole(&mut totals);
     loads(&mut totals, &mut steps);
-    let Totals { inputs, matches, nones, refused, handed, verdicts, queries, replays, rows, divided, loads } = totals;
+    orders(&mut totals, &mut steps);
+    let Totals { inputs, matches, nones, refused, handed, verdicts, queries, replays, rows, divided, loads, orders } = totals;
     let numbers: Vec<String> = (1..15).chain([17]).map(|k| format!("{k}: {}", refused[k])).collect();
     println!("Agreement: {inputs} inputs, (a) to (e) each as the independent implementation says: {matches} match, {nones} none,");
     println!("{} refused (by number, {}). (a) and (e) name the first list each time.", refused.iter().sum::<usize>(), numbers.join(", "));
     println!("Sessions: {handed} events handed over, {verdicts} verdicts looked at; {queries} order queries. {replays} replays, byte by byte.");
     println!("Rows of 0 to {} sessions: {rows} events, {divided} refused by some and taken by others; each as alone, byte by byte.", ROW + 1);
-    println!("{loads} loads, each byte as the rule says, in buffers of three sizes.\n");
+    println!("{loads} loads, each byte as the rule says, in buffers of three sizes.");
+    let Orders { logs, full, given, shown, unreached, long, refused } = orders;
+    println!("Orders of {logs} logs, {full} of them with {PLACES} events: {given}, just those that swaps reach, smallest first; {shown} logs have one that");
+    println!("holds the pattern, as the run says. {unreached} lists are no order (26); {long} logs are too long (25), {refused} refused.\n");
 }

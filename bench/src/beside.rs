@@ -1,20 +1,25 @@
-// Times what stands beside the run alone: a replay and an order query, a row of sessions, and making a load.
+// Times what stands beside the run alone: a replay and an order query, a row of sessions, making a load, and going through orders.
 use crate::contest;
 use crate::ffi::{self, Session};
-use crate::load::{self, Input};
+use crate::load::{self, Bytes, Input};
 use crate::reference;
 use crate::time::{thread_time, ROUNDS};
-use crate::verdict::{Outcome, EVENTS};
+use crate::verdict::{Outcome, EVENTS, PLACES};
 use std::hint::black_box;
 
 /// How many patterns are looked for at once.
 const PATTERNS: usize = 12;
 
-/// The time of a call in ns an event.
-fn per_event<T>(input: &Input, call: impl FnOnce() -> T) -> f64 {
+/// The time of a call in ns, for each of so many.
+fn per<T>(count: usize, call: impl FnOnce() -> T) -> f64 {
     let start = thread_time();
     black_box(call());
-    (thread_time() - start) as f64 / input.events as f64
+    (thread_time() - start) as f64 / count as f64
+}
+
+/// The time of a call in ns an event.
+fn per_event<T>(input: &Input, call: impl FnOnce() -> T) -> f64 {
+    per(input.events, call)
 }
 
 /// The least time of each in ns an event, the three in turns, as Markdown, on the inputs whose match is the last event: each group's pass then
@@ -117,8 +122,49 @@ fn loads() {
     println!("| Note 11 | {library:.1} | {rust:.1} | {run:.1} | {:.2} | {:.2} |", library / rust, library / run);
 }
 
+/// How many orders the library's calls give, one after the other.
+#[inline(never)]
+fn by_calls(log: &[u8]) -> usize {
+    let mut row = ffi::first_order(log);
+    let mut count = 0;
+    while row.is_order() {
+        count += 1;
+        row = ffi::next_order(log, &row.events);
+    }
+    count
+}
+
+/// A log that fills all places with marks of so many threads, in turns.
+fn marks(threads: usize) -> Vec<u8> {
+    let mut log = Bytes::default();
+    for n in 0..PLACES {
+        log.mark((n % threads) as u8, n as u16);
+    }
+    log.close()
+}
+
+/// The least time of going through all orders of a log in ns an order, by the library's calls and by swaps in plain Rust, which keeps them all, the two in
+/// turns, as Markdown.
+fn orders() {
+    println!("\n| threads | events | orders | library | plain Rust | library to Rust |\n|---|---|---|---|---|---|");
+    for threads in [2, 4, 8] {
+        let log = marks(threads);
+        let list: Vec<_> = reference::read_log(&log).expect("the log is a good one").iter().map(|e| e.label).collect();
+        let count = reference::orders(&list).len();
+        let mut least = [f64::MAX; 2];
+        for _ in 0..ROUNDS {
+            let library = per(count, || assert_eq!(by_calls(black_box(&log)), count));
+            let rust = per(count, || reference::orders(black_box(&list)));
+            least = [least[0].min(library), least[1].min(rust)];
+        }
+        let [library, rust] = least;
+        println!("| {threads} | {PLACES} | {count} | {library:.1} | {rust:.1} | {:.2} |", library / rust);
+    }
+}
+
 pub fn print() {
     replays_and_queries();
     rows();
     loads();
+    orders();
 }

@@ -1,5 +1,5 @@
 // The functions of the proved static library, declared as its C header has them, with one safe wrapper each.
-use crate::verdict::{found, Judged, Outcome, Refusal, Relation, EVENTS, LOCKS, SLOTS, THREADS, VARIABLES};
+use crate::verdict::{found, Judged, Outcome, Refusal, Relation, EVENTS, LOCKS, PLACES, SLOTS, THREADS, VARIABLES};
 
 #[repr(C)]
 struct Judgement {
@@ -75,6 +75,36 @@ pub struct RowReport {
     pub place: usize,
 }
 
+/// What is answered about the orders of a log: an order by the event numbers at its places, that the given one was the last, or a refusal.
+#[repr(C)]
+#[derive(Clone, Copy, PartialEq, Eq, Debug)]
+pub struct OrderRow {
+    kind: u8,
+    number: u8,
+    pub events: [u8; PLACES],
+    offset: usize,
+}
+
+impl OrderRow {
+    pub const LAST: OrderRow = OrderRow { kind: 10, number: 0, events: [0; PLACES], offset: 0 };
+
+    pub fn order(events: [u8; PLACES]) -> OrderRow {
+        OrderRow { kind: 9, number: 0, events, offset: 0 }
+    }
+
+    pub fn is_order(&self) -> bool {
+        self.kind == 9
+    }
+
+    pub fn log_refused(r: Refusal) -> OrderRow {
+        OrderRow { kind: 3, number: r.number, events: [0; PLACES], offset: r.offset }
+    }
+
+    pub fn query_refused(number: u8) -> OrderRow {
+        OrderRow { kind: 4, number, events: [0; PLACES], offset: 0 }
+    }
+}
+
 /// A session as the library lays it out. No byte of it is padding, so that two are equal where their bytes are.
 #[repr(C)]
 #[derive(Clone, PartialEq, Eq)]
@@ -97,7 +127,8 @@ struct Opening {
 }
 
 const _: () = assert!(size_of::<Session>() == 4172 && size_of::<Opening>() == 4200);
-const _: () = assert!(size_of::<Event>() == 16 && size_of::<RowReport>() == 32 && size_of::<Load>() == 24);
+const _: () = assert!(size_of::<Event>() == 16 && size_of::<RowReport>() == 32);
+const _: () = assert!(size_of::<Load>() == 24 && size_of::<OrderRow>() == 24);
 
 extern "C" {
     fn bilguzor_run(pattern: *const u8, pattern_size: usize, log: *const u8, log_size: usize) -> Judgement;
@@ -111,6 +142,8 @@ extern "C" {
     ) -> Replayed;
     fn bilguzor_order(log: *const u8, log_size: usize, first: usize, second: usize) -> Ordering;
     fn bilguzor_load(seed: u32, count: usize, buffer: *mut u8, buffer_size: usize) -> Load;
+    fn bilguzor_first_order(log: *const u8, log_size: usize) -> OrderRow;
+    fn bilguzor_next_order(log: *const u8, log_size: usize, order: *const u8, order_size: usize) -> OrderRow;
     fn bilguzor_open(pattern: *const u8, pattern_size: usize) -> Opening;
     fn bilguzor_take(
         slots: *const u32,
@@ -175,6 +208,18 @@ pub fn load(seed: u32, count: usize, buffer: &mut [u8]) -> Result<usize, Refusal
         0 => Ok(load.length),
         number => Err(Refusal { number, offset: load.offset }),
     }
+}
+
+/// The first order of a log.
+pub fn first_order(log: &[u8]) -> OrderRow {
+    // Safe: the slice is lent for the call with its length, and the library only reads it.
+    unsafe { bilguzor_first_order(log.as_ptr(), log.len()) }
+}
+
+/// The order of a log after a given one.
+pub fn next_order(log: &[u8], order: &[u8]) -> OrderRow {
+    // Safe: both slices are lent for the call with their lengths, and the library only reads them.
+    unsafe { bilguzor_next_order(log.as_ptr(), log.len(), order.as_ptr(), order.len()) }
 }
 
 /// Hands over one event to each session of a row.

@@ -6,6 +6,9 @@ pub const LOCKS: usize = 16;
 pub const SLOTS: usize = 5;
 pub const EVENTS: usize = 65535;
 
+/// How many places an order has, and so the most events of a log whose orders are gone through.
+pub const PLACES: usize = 8;
+
 /// A refusal's number and offset.
 #[derive(Clone, Copy, PartialEq, Eq, Debug)]
 pub struct Refusal {

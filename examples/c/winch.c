@@ -1,5 +1,5 @@
-/* A session that is handed its events one by one, rows of sessions, runs over whole logs, a replay, order queries, and loads, through libbilguzor.a and the
- * two libraries beside it. */
+/* A session that is handed its events one by one, rows of sessions, runs over whole logs, a replay, order queries, loads, and all orders of short logs,
+ * through libbilguzor.a and the three libraries beside it. */
 #include <stdio.h>
 #include <string.h>
 
@@ -30,6 +30,19 @@ static void print_ordering(const char *what, bilguzor_ordering o)
     case BILGUZOR_FREE: printf("%s: free\n", what); break;
     default: printf("%s: %s refused %u at %zu\n", what, o.kind == BILGUZOR_LOG_REFUSED ? "log" : "query", o.number, o.offset);
     }
+}
+
+static void print_order(const char *what, bilguzor_order_row r)
+{
+    switch (r.kind) {
+    case BILGUZOR_ORDER: printf("%s: order", what); break;
+    case BILGUZOR_LAST: printf("%s: last,", what); break;
+    default: printf("%s: %s refused %u at %zu,", what, r.kind == BILGUZOR_LOG_REFUSED ? "log" : "query", r.number, r.offset);
+    }
+    for (int i = 0; i < BILGUZOR_PLACES; i++) {
+        printf(" %u", r.events[i]);
+    }
+    printf("\n");
 }
 
 static void hand(bilguzor_session *session, uint32_t thread, uint32_t operation, uint32_t object, int32_t height)
@@ -212,6 +225,65 @@ static void loads(void)
     print_judgement("run over the load", bilguzor_run(marks, sizeof marks, buffer, length));
 }
 
+/* Prints every order of a log and what is answered after the last. */
+static void go_through(const char *what, const uint8_t *log, size_t size)
+{
+    bilguzor_order_row r = bilguzor_first_order(log, size);
+    print_order(what, r);
+    while (r.kind == BILGUZOR_ORDER) {
+        r = bilguzor_next_order(log, size, r.events, sizeof r.events);
+        print_order(what, r);
+    }
+}
+
+/* Eight threads mark 1: how many orders there are, and the last of them. */
+static void eight_marks(void)
+{
+    static const uint8_t log[] = { 7, 0, 1, 0, 7, 1, 1, 0, 7, 2, 1, 0, 7, 3, 1, 0, 7, 4, 1, 0, 7, 5, 1, 0, 7, 6, 1, 0, 7, 7, 1, 0, 0 };
+    bilguzor_order_row last, next = bilguzor_first_order(log, sizeof log);
+    size_t count = 0;
+    do {
+        last = next;
+        next = bilguzor_next_order(log, sizeof log, last.events, sizeof last.events);
+        count++;
+    } while (next.kind == BILGUZOR_ORDER);
+    printf("eight marks: %zu orders\n", count);
+    print_order("eight marks", last);
+}
+
+/* thread 0 acquires lock 2 and releases it, thread 1 marks 11 and acquires lock 2 */
+static const uint8_t lock_log[] = { 3, 0, 2, 4, 0, 2, 7, 1, 11, 0, 3, 1, 2, 0 };
+
+/* thread 0 marks 1, nine times */
+static const uint8_t nine_log[] = { 7, 0, 1, 0, 7, 0, 1, 0, 7, 0, 1, 0, 7, 0, 1, 0, 7, 0, 1, 0, 7, 0, 1, 0, 7, 0, 1, 0, 7, 0, 1, 0, 7, 0, 1, 0, 0 };
+
+static void all_orders(void)
+{
+    static const uint8_t nothing[] = { 0 };
+    go_through("lock and mark", lock_log, sizeof lock_log);
+    go_through("no event", nothing, sizeof nothing);
+    eight_marks();
+    go_through("nine marks", nine_log, sizeof nine_log);
+    go_through("held lock", held_log, sizeof held_log);
+}
+
+/* One order, and lists that are none: with dependent events turned round, with an event twice, with one too many, with seven and with nine places. */
+static void given_orders(void)
+{
+    static const uint8_t order[BILGUZOR_PLACES + 1] = { 1, 3, 2, 4 };
+    static const uint8_t turned[BILGUZOR_PLACES] = { 1, 3, 4, 2 };
+    static const uint8_t twice[BILGUZOR_PLACES] = { 1, 3, 2, 2 };
+    static const uint8_t more[BILGUZOR_PLACES] = { 1, 3, 2, 4, 5 };
+    print_order("after 1 3 2 4", bilguzor_next_order(lock_log, sizeof lock_log, order, BILGUZOR_PLACES));
+    print_order("after 1 3 4 2", bilguzor_next_order(lock_log, sizeof lock_log, turned, sizeof turned));
+    print_order("after 1 3 2 2", bilguzor_next_order(lock_log, sizeof lock_log, twice, sizeof twice));
+    print_order("after 1 3 2 4 5", bilguzor_next_order(lock_log, sizeof lock_log, more, sizeof more));
+    print_order("after seven places", bilguzor_next_order(lock_log, sizeof lock_log, order, BILGUZOR_PLACES - 1));
+    print_order("after nine places", bilguzor_next_order(lock_log, sizeof lock_log, order, BILGUZOR_PLACES + 1));
+    print_order("nine marks, after nine places", bilguzor_next_order(nine_log, sizeof nine_log, order, BILGUZOR_PLACES + 1));
+    print_order("held lock, after nine places", bilguzor_next_order(held_log, sizeof held_log, order, BILGUZOR_PLACES + 1));
+}
+
 int main(void)
 {
     printf("version %u%s\n", (unsigned)bilguzor_version(), bilguzor_version() == BILGUZOR_VERSION ? "" : ", which is not the header's");
@@ -222,5 +294,7 @@ int main(void)
     replays();
     orders();
     loads();
+    all_orders();
+    given_orders();
     return 0;
 }

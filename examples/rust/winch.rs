@@ -1,5 +1,5 @@
-// A session that is handed its events one by one, rows of sessions, runs over whole logs, a replay, order queries, and loads, through libbilguzor.a and the
-// two libraries beside it.
+// A session that is handed its events one by one, rows of sessions, runs over whole logs, a replay, order queries, loads, and all orders of short logs,
+// through libbilguzor.a and the three libraries beside it.
 // `bilguzor.h` says what each function answers; the declarations below are the same.
 #[repr(C)]
 struct Judgement {
@@ -53,6 +53,17 @@ struct LoadMade {
     length: usize,
 }
 
+// How many places an order has.
+const PLACES: usize = 8;
+
+#[repr(C)]
+struct OrderRow {
+    kind: u8,
+    number: u8,
+    events: [u8; PLACES],
+    offset: usize,
+}
+
 // The limits of threads, variables and locks, and with them how many numbers the parts of a session have.
 const THREADS: usize = 16;
 const VARIABLES: usize = 32;
@@ -90,6 +101,7 @@ const _: () = assert!(std::mem::size_of::<Answer>() == 16);
 const _: () = assert!(std::mem::size_of::<Event>() == 16);
 const _: () = assert!(std::mem::size_of::<RowReport>() == 32);
 const _: () = assert!(std::mem::size_of::<LoadMade>() == 24);
+const _: () = assert!(std::mem::size_of::<OrderRow>() == 24);
 const _: () = assert!(std::mem::size_of::<Session>() == 4172);
 const _: () = assert!(std::mem::size_of::<Opening>() == 4200);
 
@@ -120,6 +132,8 @@ extern "C" {
     ) -> Answer;
     fn bilguzor_take_all(row: *mut Session, row_size: usize, event: Event) -> RowReport;
     fn bilguzor_load(seed: u32, count: usize, buffer: *mut u8, buffer_size: usize) -> LoadMade;
+    fn bilguzor_first_order(log: *const u8, log_size: usize) -> OrderRow;
+    fn bilguzor_next_order(log: *const u8, log_size: usize, order: *const u8, order_size: usize) -> OrderRow;
     fn bilguzor_verdict(size: u32, table: &[u16; TABLE], count: u16) -> Judgement;
     fn bilguzor_version() -> u32;
 }
@@ -141,6 +155,8 @@ const SAME: u8 = 5;
 const BEFORE: u8 = 6;
 const AFTER: u8 = 7;
 const FREE: u8 = 8;
+const ORDER: u8 = 9;
+const LAST: u8 = 10;
 
 const WRITE: u32 = 2;
 const ACQUIRE: u32 = 3;
@@ -171,6 +187,14 @@ fn take_all(row: &mut [Session], event: Event) -> RowReport {
 
 fn load(seed: u32, count: usize, buffer: &mut [u8]) -> LoadMade {
     unsafe { bilguzor_load(seed, count, buffer.as_mut_ptr(), buffer.len()) }
+}
+
+fn first_order(log: &[u8]) -> OrderRow {
+    unsafe { bilguzor_first_order(log.as_ptr(), log.len()) }
+}
+
+fn next_order(log: &[u8], order: &[u8]) -> OrderRow {
+    unsafe { bilguzor_next_order(log.as_ptr(), log.len(), order.as_ptr(), order.len()) }
 }
 
 impl Session {
@@ -222,6 +246,21 @@ fn print_ordering(what: &str, o: &Ordering) {
             println!("{what}: {whose} refused {} at {}", o.number, o.offset);
         }
     }
+}
+
+fn print_order(what: &str, r: &OrderRow) {
+    match r.kind {
+        ORDER => print!("{what}: order"),
+        LAST => print!("{what}: last,"),
+        kind => {
+            let whose = if kind == LOG_REFUSED { "log" } else { "query" };
+            print!("{what}: {whose} refused {} at {},", r.number, r.offset);
+        }
+    }
+    for e in r.events {
+        print!(" {e}");
+    }
+    println!();
 }
 
 fn hand(session: &mut Session, thread: u32, operation: u32, object: u32, height: i32) {
@@ -381,6 +420,59 @@ fn loads() {
     print_judgement("run over the load", &run(&marks, &buffer[..length]));
 }
 
+// Prints every order of a log and what is answered after the last.
+fn go_through(what: &str, log: &[u8]) {
+    let mut r = first_order(log);
+    print_order(what, &r);
+    while r.kind == ORDER {
+        r = next_order(log, &r.events);
+        print_order(what, &r);
+    }
+}
+
+// Eight threads mark 1: how many orders there are, and the last of them.
+fn eight_marks() {
+    let log = [7, 0, 1, 0, 7, 1, 1, 0, 7, 2, 1, 0, 7, 3, 1, 0, 7, 4, 1, 0, 7, 5, 1, 0, 7, 6, 1, 0, 7, 7, 1, 0, 0];
+    let mut last = first_order(&log);
+    let mut next = next_order(&log, &last.events);
+    let mut count = 1;
+    while next.kind == ORDER {
+        last = next;
+        next = next_order(&log, &last.events);
+        count += 1;
+    }
+    println!("eight marks: {count} orders");
+    print_order("eight marks", &last);
+}
+
+// thread 0 acquires lock 2 and releases it, thread 1 marks 11 and acquires lock 2
+const LOCK_LOG: [u8; 14] = [3, 0, 2, 4, 0, 2, 7, 1, 11, 0, 3, 1, 2, 0];
+
+// thread 0 marks 1, nine times
+const NINE_LOG: [u8; 37] =
+    [7, 0, 1, 0, 7, 0, 1, 0, 7, 0, 1, 0, 7, 0, 1, 0, 7, 0, 1, 0, 7, 0, 1, 0, 7, 0, 1, 0, 7, 0, 1, 0, 7, 0, 1, 0, 0];
+
+fn all_orders() {
+    go_through("lock and mark", &LOCK_LOG);
+    go_through("no event", &[0]);
+    eight_marks();
+    go_through("nine marks", &NINE_LOG);
+    go_through("held lock", &HELD_LOG);
+}
+
+// One order, and lists that are none: with dependent events turned round, with an event twice, with one too many, with seven and with nine places.
+fn given_orders() {
+    let order = [1, 3, 2, 4, 0, 0, 0, 0, 0];
+    print_order("after 1 3 2 4", &next_order(&LOCK_LOG, &order[..PLACES]));
+    print_order("after 1 3 4 2", &next_order(&LOCK_LOG, &[1, 3, 4, 2, 0, 0, 0, 0]));
+    print_order("after 1 3 2 2", &next_order(&LOCK_LOG, &[1, 3, 2, 2, 0, 0, 0, 0]));
+    print_order("after 1 3 2 4 5", &next_order(&LOCK_LOG, &[1, 3, 2, 4, 5, 0, 0, 0]));
+    print_order("after seven places", &next_order(&LOCK_LOG, &order[..PLACES - 1]));
+    print_order("after nine places", &next_order(&LOCK_LOG, &order));
+    print_order("nine marks, after nine places", &next_order(&NINE_LOG, &order));
+    print_order("held lock, after nine places", &next_order(&HELD_LOG, &order));
+}
+
 fn main() {
     let version = unsafe { bilguzor_version() };
     println!("version {version}{}", if version == VERSION { "" } else { ", which is not the header's" });
@@ -391,4 +483,6 @@ fn main() {
     replays();
     orders();
     loads();
+    all_orders();
+    given_orders();
 }

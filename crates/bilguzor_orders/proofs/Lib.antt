@@ -1,0 +1,2 @@
+-- What a call gives, in numbers.
+pub mod Numbers

@@ -1,0 +1,2 @@
+-- The orders of a short log in numbers.
+pub mod OrderNumbers
