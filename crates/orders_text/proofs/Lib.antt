@@ -1,0 +1,3 @@
+-- Laws of the lines of orders.
+pub mod Lines
+pub mod Orders

@@ -1,0 +1,2 @@
+-- The lines that the program `orders` prints.
+pub mod OrdersText
