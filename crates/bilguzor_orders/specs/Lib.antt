@@ -1,2 +1,2 @@
--- The orders of a short log in numbers.
+-- The orders of a short log in numbers, and all of them in turn.
 pub mod OrderNumbers

@@ -53,7 +53,7 @@ accepted-refused p q = both-ways refl (ap isAccepted (sym p ∙ q))
 
 module _ (bytes : List ℕ) (es : List Event) (acc : readLog bytes ≡ accepted es) (few : length es ≤ orderPlaces) where
   -- one row stands for one order
-  row-one : {o q : List ℕ} → IsOrder es o → IsOrder es q → orderRow o ≡ orderRow q → o ≡ q
+  pub row-one : {o q : List ℕ} → IsOrder es o → IsOrder es q → orderRow o ≡ orderRow q → o ≡ q
   row-one {o} {q} h g e =
       let m = order-sized noEvent dependent es o h .0 in
       let n = order-sized noEvent dependent es q g .0 in

@@ -34,6 +34,10 @@ smaller-on : {xs ys : List ℕ} (us vs : List ℕ) → Smaller xs ys → Smaller
 smaller-on us vs (here l) = here l
 smaller-on us vs (later s) = later (smaller-on us vs s)
 
+-- a smaller order has a smaller row
+pub row-rises : (o q : List ℕ) → Smaller o q → Smaller (orderRow o) (orderRow q)
+row-rises o q s = smaller-on (replicate (orderPlaces - length o) 0) (replicate (orderPlaces - length q) 0) s
+
 -- the second is larger, and below the number of all rows
 abbrev Ranked : List ℕ → List ℕ → Type 0
 Ranked row larger = (rank 9 row < rank 9 larger) × (rank 9 larger < 9 ^ orderPlaces)
@@ -47,7 +51,7 @@ module _ (es : List Event) (few : length es ≤ orderPlaces) where
 
   ranked : {o q : List ℕ} → IsOrder es o → NextAmong (IsOrder es) o (some q) → Ranked (orderRow o) (orderRow q)
   ranked {o} {q} h (next g s least) = (
-    rank-smaller 9 (numbered o h) (eight o h ∙ sym (eight q g)) (smaller-on (replicate (orderPlaces - length o) 0) (replicate (orderPlaces - length q) 0) s),
+    rank-smaller 9 (numbered o h) (eight o h ∙ sym (eight q g)) (row-rises o q s),
     subst (λ n. rank 9 (orderRow q) < 9 ^ n) (eight q g) (rank-bound 9 (orderRow q) (numbered q g)),
   )
 
