@@ -21,7 +21,8 @@ struct Gone {
     holds: bool,
 }
 
-// How many orders were given, in how many logs one of them holds the pattern, how many lists were asked for that are no order, and how many logs were wrong.
+// How many orders were given, in how many logs one of them holds the pattern, how many lists were asked for that are no order, how many logs were wrong, and in how
+// many an order that the search did not find is seen to be wrong.
 pub(crate) fn agree(
     queue: &mut [u32],
     seen: &mut [bool],
@@ -42,9 +43,21 @@ pub(crate) fn agree(
     orders::clear(queue, seen, found);
     tally::add(counts, LISTED, w.given as u64);
     tally::add_if(counts, LISTED + 1, w.holds);
+    tally::add_if(counts, LISTED + 4, refutes(seen, log, q));
     let exact = w.given == found && w.holds == compare::matched(judged);
     let turned = turned_round(log, q, counts);
     held(counts, w.right && exact && turned)
+}
+
+// Whether the first order is held to be wrong once the search has forgotten it, so that the comparison is seen to fail.
+fn refutes(seen: &[bool], log: &[u8], q: Question) -> bool {
+    let before = Gone {
+        right: true,
+        given: 0,
+        holds: false,
+    };
+    let w = one_more(before, seen, [0u8; PLACES], orders_log::first(log), q, 0);
+    !w.right
 }
 
 // Counts one more where it is not so.

@@ -51,9 +51,9 @@ pub const REPLAYS: usize = 38;
 
 pub const LISTED: usize = 47;
 
-const AGAIN: usize = 51;
+const AGAIN: usize = 52;
 
-const ACTING: usize = 54;
+const ACTING: usize = 55;
 
 const CHILDREN: usize = ACTING + THREADS;
 

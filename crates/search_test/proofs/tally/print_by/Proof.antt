@@ -6,10 +6,10 @@ use Rattle.search_test.proofs.tally.print_by.Statement.{statement}
 use Rattle.search_test.proofs.tally.print_by.Tie as tie
 
 abbrev Inv-loop : tie.InvT-loop
-Inv-loop words counts at₀ i₀ at i = i ≤ 54 + threads + threads
+Inv-loop words counts at₀ i₀ at i = i ≤ 55 + threads + threads
 
 abbrev μ-loop : tie.MeasureT-loop
-μ-loop words counts at₀ i₀ at i = 54 + threads + threads - i
+μ-loop words counts at₀ i₀ at i = 55 + threads + threads - i
 
 pub print-by-spec : {M : Type 1} → statement M
 print-by-spec =
