@@ -29,7 +29,7 @@ smaller-turned (later r) (here h) = omega arith
 smaller-turned (later r) (later q) = smaller-turned r q
 
 -- what is least in every place is smaller than what differs from it
-least-smaller : {is js : List ℕ} → Each (λ i j. i ≤ j) is js → ¬ (is ≡ js) → Smaller is js
+pub least-smaller : {is js : List ℕ} → Each (λ i j. i ≤ j) is js → ¬ (is ≡ js) → Smaller is js
 least-smaller Each.none d = absurd (d refl)
 least-smaller (Each.more {s = i} {ss = is} {a = j} {rest = js} l c) d = go (decLt i j) (λ e. least-smaller c e)
   where

@@ -26,6 +26,8 @@ pub mod Verdict
 -- the first example, chosen slot by slot
 pub mod FirstChoice
 pub mod First
+-- why there is no match
+pub mod Reasons
 -- stamps, and the clocks that compute them
 pub mod Tallies
 pub mod Stamps

@@ -4,5 +4,6 @@ pub mod Swaps
 pub mod Before
 pub mod Match
 pub mod First
+pub mod Reason
 pub mod Stamps
 pub mod Tuples
