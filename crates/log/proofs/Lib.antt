@@ -9,3 +9,4 @@ pub mod Writes
 pub mod Numbering
 pub mod Leading
 pub mod Limits
+pub mod Answers

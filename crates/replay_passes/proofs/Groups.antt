@@ -26,7 +26,8 @@ use Rattle.clock.specs.declared.Stamp.{Stamp}
 use Rattle.clock.specs.Clocks.{noStamp, higherOf}
 use Rattle.clock.proofs.Entries.{heard-from, heard-length}
 use Rattle.replay_order.specs.Replay.{IsReplay}
-use Rattle.replay_passes.specs.Copies.{noEntry, commands, copied, between, countIn, Tells, Copies, ReadAs, NamedAmong, StampsTo}
+use Rattle.event_stamps.specs.EventStamps.{noEntry, StampsTo}
+use Rattle.replay_passes.specs.Copies.{commands, copied, between, countIn, Tells, Copies, ReadAs, NamedAmong}
 use Rattle.replay_order.proofs.Order.{replay-perm}
 use Rattle.replay_passes.proofs.Lengths.{log-commands, log-length, perm-length}
 use Rattle.replay_passes.proofs.ByStamps.{groups, Stamped, groups-replay}

@@ -2,6 +2,5 @@
 pub mod Lengths
 pub mod ByStamps
 pub mod Reader
-pub mod Stamping
 pub mod Copying
 pub mod Groups

@@ -20,6 +20,7 @@ use Rattle.command.proofs.Inversion.{Found, decode-found, goes-on, not-closed}
 use Rattle.log.specs.Leading.{Leading}
 use Rattle.log.specs.Calls.{ReadCalls}
 use Rattle.log.proofs.Leading.{Midway, past-it, past-to, within-limits, not-absent}
+use Rattle.passes.specs.Passes.{Leads}
 use Rattle.replay_passes.specs.Copies.{ReadAs}
 
 -- before the event at `at`, some events gone past; behind the others the log ends
@@ -33,6 +34,10 @@ module _ (bytes : List ℕ) where
   leading (ReadCalls.more q r) = let l = leading r in (l .0, Leading.more q (l .1), l .2)
 
 module _ {bytes : List ℕ} where
+  -- all events lead it
+  pub leads : {es : List Event} → ReadAs bytes es → Leads bytes es (length es)
+  leads r = let l = leading bytes (r .calls) in record { to = l .0; read = l .1; count = refl; few = r .few }
+
   pub from-start : {es : List Event} → ReadAs bytes es → Ahead bytes es [] 0
   from-start {es} r =
       let l = leading bytes (r .calls) in

@@ -2,14 +2,13 @@
 -- Assumes nothing.
 use Prim.Native.Nat.{ℕ, zero, suc, _+_, _≤_, _<_}
 use mathlib.Core.Path.{_≡_}
-use mathlib.Core.Bool.{Bool, false, cond, _&&_, _||_}
+use mathlib.Core.Bool.{Bool, cond, _&&_}
 use mathlib.Core.List.{List, [], _∷_, _++_}
-use lib.Dec.{eqb, leb, ltb}
+use lib.Dec.{leb, ltb}
 use lib.ListN.{length, getD}
 use Rattle.event.specs.declared.Event.{Event}
-use Rattle.event.specs.Limits.{threads, slots as slotLimit, events}
+use Rattle.event.specs.Limits.{threads, events}
 use Rattle.event.specs.Slots.{noEvent}
-use Rattle.event.specs.Updated.{updated}
 use Rattle.trace.specs.Tuples.{eventAt, threadAt, place, keep}
 use Rattle.dependence.specs.Order.{threadOf}
 use Rattle.command.specs.Commands.{eventBytes}
@@ -19,7 +18,6 @@ use Rattle.command.specs.Reading.{readEvent}
 use Rattle.log.specs.Calls.{ReadCalls}
 use Rattle.log.specs.Whole.{logBytes}
 use Rattle.clock.specs.declared.Stamp.{Stamp}
-use Rattle.clock.specs.Arrivals.{StampOf}
 use Rattle.replay_order.specs.Replay.{IsReplay}
 
 -- the commands of events, one behind the other
@@ -71,23 +69,6 @@ pub record ReadAs (bytes : List ℕ) (es : List Event) : Type 0 where
 pub record NamedAmong (es : List Event) (numbers : List ℕ) (size n : ℕ) : Type 0 where
   pub few : n ≤ length es
   pub each : (j : ℕ) → j < size → (0 < getD numbers j 0) × (getD numbers j 0 ≤ n)
-
--- what is read beyond the end of a row of stamps
-abbrev pub noEntry : Stamp
-noEntry = record { at = [] }
-
--- whether one of the first n numbers is i
-unfoldable pub isOneOf : ℕ → List ℕ → ℕ → Bool
-isOneOf zero numbers i = false
-isOneOf (suc n) numbers i = eqb (getD numbers n 0) i || isOneOf n numbers i
-
--- the stamps, with that of event number i for each slot that has this number
-abbrev pub withStamp : ℕ → Stamp → List ℕ → List Stamp → List Stamp
-withStamp i stamp numbers stamps = updated noEntry (λ j x. cond (eqb (getD numbers j 0) i) stamp x) slotLimit stamps 0
-
--- the stamps of the events of these numbers, where they are among the first n
-abbrev pub StampsTo : List Event → List ℕ → ℕ → List Stamp → Type 0
-StampsTo es numbers n stamps = (j : ℕ) → j < slotLimit → 0 < getD numbers j 0 → getD numbers j 0 ≤ n → StampOf es (getD numbers j 0) (getD stamps j noEntry)
 
 -- what is written: the replay order as a log, at the start of the buffer
 pub record Replays (es : List Event) (numbers before : List ℕ) (long : ℕ) (after : List ℕ) : Type 0 where

@@ -1,15 +1,14 @@
 // The replay order of a log, by the events that a match names: written group by group, each command as it stands.
 use clock::Stamp;
-use command::EventRead;
 use writer::Written;
 ghost use mathlib.Core.Path.{_≡_};
-ghost use mathlib.Core.Bool.{Bool, cond};
+ghost use mathlib.Core.Bool.{Bool};
 ghost use mathlib.Core.List.{List};
 ghost use Prim.Native.Nat.{ℕ, _+_, _≤_, min};
 ghost use lib.ListN.{length, take};
 ghost use Rattle.event.specs.declared.Event.{Event};
 ghost use Rattle.event.specs.Limits.{slots as slotLimit};
-ghost use Rattle.replay_passes.specs.Copies.{ReadAs, NamedAmong, commands, copied, between, Tells, CopiedIf, Copies, isOneOf, withStamp, StampsTo, Replays};
+ghost use Rattle.replay_passes.specs.Copies.{ReadAs, NamedAmong, commands, copied, between, Tells, CopiedIf, Copies, Replays};
 
 // Writes the replay of a log at the start of a lent buffer, by the numbers of the slots' events, which are among its first n: how many bytes it has.
 pub fn write(
@@ -22,7 +21,7 @@ pub fn write(
     requires { ⌜ size ≤ slotLimit ⌝ }
     ensures { λ r. ⌜ ((es : List Event) → ReadAs (now (log .entry)) es → NamedAmong es numbers size n → length (now (log .entry)) ≤ length (now (buffer .entry)) → Replays es (take size numbers) (now (buffer .entry)) r (now (buffer .exit))) ⌝ }
 {
-    let stamps = stamps_of(log, n, numbers);
+    let stamps = event_stamps::stamps_of(log, n, numbers);
     let mut written = Stamp {
         at: [0; clock::THREADS],
     };
@@ -38,68 +37,6 @@ pub fn write(
     };
     let end = copy_between(log, event::EVENTS, written, all, buffer, at);
     copy_if(true, buffer, end, &[0])
-}
-
-// The stamps of those of the first n events that have these numbers, in one pass.
-fn stamps_of(log: &[u8], n: usize, numbers: [u16; event::SLOTS]) -> [Stamp; event::SLOTS]
-    ensures { λ r. ⌜ ((es : List Event) → ReadAs (now (log .entry)) es → n ≤ length es → StampsTo es numbers n r) ⌝ }
-{
-    let none = Stamp {
-        at: [0; clock::THREADS],
-    };
-    let mut stamps = [none; event::SLOTS];
-    let mut clocks = clock::fresh();
-    let mut at: usize = 0;
-    let mut i: usize = 0;
-    while i < n {
-        let read = command::read_event(log, at);
-        let EventRead::Event { event, next } = read else {
-            return stamps;
-        };
-        i += 1;
-        let stamp = clock::advance(&mut clocks, event);
-        // The stamps are copied in this branch alone, and not with every event.
-        if is_one_of(numbers, i) {
-            let kept = with_stamp(stamps, numbers, i, stamp);
-            stamps = kept;
-        }
-        at = next;
-    }
-    stamps
-}
-
-// Whether one of the numbers is i.
-fn is_one_of(numbers: [u16; event::SLOTS], i: usize) -> bool
-    ensures { λ r. ⌜ r ≡ isOneOf slotLimit numbers i ⌝ }
-{
-    let mut found = false;
-    for j in 0..event::SLOTS {
-        found = (numbers[j] as usize == i) | found;
-    }
-    found
-}
-
-// The stamps, with that of event number i for each slot that has this number.
-fn with_stamp(
-    stamps: [Stamp; event::SLOTS],
-    numbers: [u16; event::SLOTS],
-    i: usize,
-    stamp: Stamp,
-) -> [Stamp; event::SLOTS]
-    ensures { λ r. ⌜ r ≡ withStamp i stamp numbers stamps ⌝ }
-{
-    let mut r = stamps;
-    for j in 0..event::SLOTS {
-        let x = either(numbers[j] as usize == i, stamp, r[j]);
-        r[j] = x;
-    }
-    r
-}
-
-fn either(b: bool, x: Stamp, y: Stamp) -> Stamp
-    ensures { λ r. ⌜ r ≡ cond b x y ⌝ }
-{
-    if b { x } else { y }
 }
 
 // Copies those of the first n events whose place in their thread is above the one stamp's count and within the other's, from a place of the buffer on:

@@ -2,9 +2,14 @@
 use Prim.Native.Nat.{ℕ, zero, suc, max}
 use mathlib.Core.Bool.{Bool, true, false, cond}
 use mathlib.Core.List.{List}
+use lib.Dec.{eqb}
 use lib.ListN.{getD, replicate}
 use Rattle.event.specs.Limits.{slots as slotLimit}
 use Rattle.session.specs.Answers.{refusal, nothing, pattern, log, Given}
+use Rattle.log.specs.declared.LogRead.{LogRead}
+use Rattle.log.specs.declared.LogRead.the-variants as read
+use Rattle.first.specs.declared.Search.{Search}
+use Rattle.slot_search.specs.declared.Searched.{Searched}
 use Rattle.run.specs.declared.Outcome.{Outcome}
 use Rattle.run.specs.declared.Outcome.the-variants as outcome
 use Rattle.run.specs.declared.Judged.{Judged}
@@ -31,3 +36,11 @@ judgedBy matches numbers =
     cond matches
     (record { outcome = outcome.Match (greatestOf slotLimit numbers); numbers = numbers })
     (record { outcome = outcome.None; numbers = replicate slotLimit 0 })
+
+-- what a run gives once the log has been gone through: its refusal, or the verdict of the search for so many slots
+abbrev pub judgedOn : LogRead → ℕ → Search → Judged
+judgedOn (read.Accepted n) size s = judgedBy (eqb (s .found) size) (s .numbers)
+judgedOn (read.LogRefused k o) size s = record { outcome = outcome.LogRefused k o; numbers = replicate slotLimit 0 }
+
+abbrev pub judgedAfter : ℕ → Searched → Judged
+judgedAfter size r = judgedOn (r .read) size (r .search)

@@ -1,2 +1,2 @@
+-- What a run's answer says.
 pub mod Answers
-pub mod Patterns

@@ -6,6 +6,7 @@ use lib.ListN.{length}
 use Rattle.event.specs.declared.Event.{Event}
 use Rattle.event.specs.Limits.{slots as slotLimit}
 use Rattle.replay_passes.specs.Copies.{ReadAs, NamedAmong}
+use Rattle.replay_passes.proofs.Reader.{leads}
 use Rattle.replay_passes.proofs.Copying.{copied-there}
 use Rattle.replay_passes.proofs.Groups.{Grouping, order, is-replay, fits-in, begun, tells, room, next-group, tells-rest, room-rest, room-closing, closed-log}
 use borrow.Author.Needs.{needs}
@@ -36,7 +37,7 @@ loop-again c =
         c .before .before .buffer .given ∙ l .inv .1 .0,
         λ es r li u.
             let g = l .inv .1 .1 es r li u in
-            let f = fits-in r (s .pre) w li stamps (c .before .before .before .before .before .before .before .before .stamps-of .ensures es r (li .few)) (s .args .buffer .now) u in
+            let f = fits-in r (s .pre) w li stamps (c .before .before .before .before .before .before .before .before .stamps-of .ensures es _ (leads r) (li .few)) (s .args .buffer .now) u in
             let m = li .each (l .j) t in
             let v = li .few in
             rw (c .join .ensures)
@@ -53,7 +54,7 @@ returns c =
     let t = c .before .before .before .before .before .before .before .before .before .loop-test .left in
     let w : length nums ≡ slotLimit = search needs in
     λ es r li u.
-    let st = c .before .before .before .before .before .before .before .before .before .before .before .stamps-of .ensures es r (li .few) in
+    let st = c .before .before .before .before .before .before .before .before .before .before .before .stamps-of .ensures es _ (leads r) (li .few) in
     let g = l .inv .1 .1 es r li u in
     let f = fits-in r (s .pre) w li stamps st (s .args .buffer .now) u in
     let z : l .j ≡ s .args .size = let h = l .inv .0 in omega arith in

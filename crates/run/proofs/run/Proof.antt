@@ -1,7 +1,8 @@
 use mathlib.Core.Path.{sym, ap, _∙_}
 use Rattle.command.specs.Bytes.{Bytes}
 use Rattle.log.specs.Whole.{patternAnswerIs}
-use Rattle.run.proofs.Running.{refused-pattern, accepted-usable, accepted-pattern}
+use Rattle.slot_search.proofs.Usable.{accepted-usable}
+use Rattle.run.proofs.Verdict.{refused-pattern, accepted-pattern}
 use borrow.Author.Needs.{needs}
 use Rattle.run.proofs.run.Statement.{statement}
 use Rattle.run.proofs.run.Tie as tie
@@ -10,20 +11,20 @@ run-on-requires : tie.Need-run-on-requires
 run-on-requires c κs =
     let read = c .before .before .before .read-pattern .ensures in
     let is-bytes : Bytes (c .before .before .before .before .before .before .args .pattern .now) = λ k. c .before .before .before .before .before .shared-slice-known .given k .fits in
-    rw (read .pattern) (accepted-usable (c .before .before .before .before .before .before .args .pattern .now) (c .before .before .before .before .before .before .args .log .now) is-bytes _ (sym (ap patternAnswerIs (c .enum-told .given .1)) ∙ read .answer))
+    rw (read .pattern) (accepted-usable (c .before .before .before .before .before .before .args .pattern .now) is-bytes (sym (ap patternAnswerIs (c .enum-told .given .1)) ∙ read .answer))
 
 returns : tie.Need-returns
-returns c = let given = c .before .answer .given in
-    refused-pattern _ _ (given .0 .0) (given .0 .1 .0) (sym (ap patternAnswerIs (given .1)) ∙ c .before .before .before .before .read-pattern .ensures .answer)
+returns c =
+    rw (c .pattern-refused .ensures)
+    (refused-pattern _ _ (sym (ap patternAnswerIs (c .before .before .answer .given .1)) ∙ c .before .before .before .before .before .read-pattern .ensures .answer))
 
 returns-2 : tie.Need-returns-2
-returns-2 c = let bytes = c .before .before .before .before .before .before .before .args .pattern .now in
-    let is-bytes : Bytes bytes = λ k. c .before .before .before .before .before .before .shared-slice-known .given k .fits in
+returns-2 c =
     let read = c .before .before .before .before .read-pattern .ensures in
     let told = c .before .enum-told .given .1 in
-    accepted-pattern bytes _ is-bytes _ (sym (ap patternAnswerIs told) ∙ read .answer) _ (rw (read .pattern) at (c .run-on .ensures))
+    accepted-pattern _ _ (sym (ap patternAnswerIs told) ∙ read .answer) _ (rw (read .pattern) at (c .run-on .ensures))
 
 pub run-spec : {M : Type 1} → statement M
 run-spec =
     tie.close
-    (tie.spec (λ c κs. search needs) (λ c. search needs) (λ c. search needs) run-on-requires returns returns-2)
+    (tie.spec (λ c κs. search needs) (λ c. search needs) (λ c κs. search needs) (λ c. search needs) run-on-requires returns returns-2)

@@ -3,10 +3,10 @@ use native.Mathlib.Omega.{arith}
 use native.Mathlib.Numerals.{add-one}
 use mathlib.Core.Path.{_≡_, refl}
 use Rattle.event.specs.Limits.{slots as slotLimit}
-use Rattle.replay_passes.specs.Copies.{isOneOf}
+use Rattle.event_stamps.specs.EventStamps.{isOneOf}
 use borrow.Author.Needs.{needs}
-use Rattle.replay_passes.proofs.is_one_of.Statement.{statement}
-use Rattle.replay_passes.proofs.is_one_of.Tie as tie
+use Rattle.event_stamps.proofs.is_one_of.Statement.{statement}
+use Rattle.event_stamps.proofs.is_one_of.Tie as tie
 
 abbrev Inv-loop : tie.InvT-loop
 Inv-loop i numbers found₀ j₀ found j = (j ≤ slotLimit) × (found ≡ isOneOf j numbers i)

@@ -1,7 +1,7 @@
 use borrow.Author.Tests.{lt-ltb, le-ltb}
 use borrow.Author.Needs.{needs}
-use Rattle.run.proofs.fills.Statement.{statement}
-use Rattle.run.proofs.fills.Tie as tie
+use Rattle.slot_search.proofs.fills.Statement.{statement}
+use Rattle.slot_search.proofs.fills.Tie as tie
 
 returns : tie.Need-returns
 returns c = rw (le-ltb _ _ (c .if1 .taken))

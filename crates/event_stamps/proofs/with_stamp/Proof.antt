@@ -8,10 +8,10 @@ use mathlib.Core.Bool.{cond}
 use lib.Dec.{eqb}
 use lib.ListN.{getD}
 use Rattle.event.specs.Updated.{updated}
-use Rattle.replay_passes.specs.Copies.{noEntry}
+use Rattle.event_stamps.specs.EventStamps.{noEntry}
 use borrow.Author.Needs.{needs}
-use Rattle.replay_passes.proofs.with_stamp.Statement.{statement}
-use Rattle.replay_passes.proofs.with_stamp.Tie as tie
+use Rattle.event_stamps.proofs.with_stamp.Statement.{statement}
+use Rattle.event_stamps.proofs.with_stamp.Tie as tie
 
 abbrev Inv-loop : tie.InvT-loop
 Inv-loop i stamp numbers r₀ j₀ r j = (j ≤ slotLimit) × (r ≡ updated noEntry (λ k x. cond (eqb (getD numbers k 0) i) stamp x) j r₀ 0)

@@ -18,8 +18,9 @@ use Rattle.command.specs.Reading.{command, readEvent}
 use Rattle.clock.specs.declared.Stamp.{Stamp}
 use Rattle.clock.specs.Arrivals.{StampOf, ClocksOf, Arrived}
 use Rattle.passes.proofs.Passes.{stamp-stays}
-use Rattle.replay_passes.specs.Copies.{ReadAs, noEntry, isOneOf, withStamp, StampsTo}
-use Rattle.replay_passes.proofs.Reader.{Ahead, from-start, left, onward, in-limits}
+use Rattle.log.proofs.Leading.{Midway, at-start, past-it, within-limits}
+use Rattle.passes.specs.Passes.{Leads}
+use Rattle.event_stamps.specs.EventStamps.{noEntry, isOneOf, withStamp, StampsTo}
 
 -- none of the numbers is i
 none-of : (numbers : List ℕ) (i n : ℕ) → isOneOf n numbers i ≡ false → (j : ℕ) → j < n → eqb (getD numbers j 0) i ≡ false
@@ -36,32 +37,35 @@ none-of numbers i (suc n) h j l = go (eqb (getD numbers n 0) i) refl h (ℕ-disc
 -- i events gone past, which the clocks hold, and the stamps of those of them that have one of the numbers
 pub record Stamping (bytes : List ℕ) (es : List Event) (numbers clocks : List ℕ) (stamps : List Stamp) (at i : ℕ) : Type 0 where
   pub gone : List Event
-  pub ahead : Ahead bytes es gone at
+  pub passed : Midway bytes es gone at
   pub count : length gone ≡ i
   pub held : ClocksOf gone clocks
   pub whole : length stamps ≡ slotLimit
   pub kept : StampsTo gone numbers i stamps
 
-module _ {bytes : List ℕ} {es : List Event} (r : ReadAs bytes es) {numbers : List ℕ} where
+module _ {bytes : List ℕ} {es : List Event} {m : ℕ} (ls : Leads bytes es m) {numbers : List ℕ} where
   pub begun : {clocks : List ℕ} (stamps : List Stamp) → length stamps ≡ slotLimit → ClocksOf [] clocks → Stamping bytes es numbers clocks stamps 0 0
   begun stamps w h =
-      record { gone = []; ahead = from-start r; count = refl; held = h; whole = w; kept = λ j l u v. absurd (let z : ⊥ = omega arith in z) }
+      record { gone = []; passed = at-start bytes (ls .read); count = refl; held = h; whole = w; kept = λ j l u v. absurd (let z : ⊥ = omega arith in z) }
 
   module _ {clocks : List ℕ} {stamps : List Stamp} {at i : ℕ} (s : Stamping bytes es numbers clocks stamps at i) where
-    module _ (e : Event) (next : ℕ) (q : command e next ≡ readEvent bytes at) where
-      -- there is room for it, and it is within its limits
-      pub room : length (s .gone) < events
-      room = let l = left (s .ahead) e next q in let few = r .few in omega arith
+    pub ahead : i < length es → length (s .gone) < length es
+    ahead l = let g = s .count in omega arith
 
-      pub stamped-on : (stamp : Stamp) (after : List ℕ) → ((log : List Event) → ClocksOf log clocks → length log < events → rangeRefusal (slotOf e) ≡ 0 → Arrived log e stamp after)
+    module _ (l : i < length es) (e : Event) (next : ℕ) (q : command e next ≡ readEvent bytes at) where
+      -- there is room for it
+      room : length (s .gone) < events
+      room = let g = s .count in let c = ls .count in let few = ls .few in omega arith
+
+      stamped-on : (stamp : Stamp) (after : List ℕ) → ((log : List Event) → ClocksOf log clocks → length log < events → rangeRefusal (slotOf e) ≡ 0 → Arrived log e stamp after)
           → (now : List Stamp) → length now ≡ slotLimit
           → ((j : ℕ) → j < slotLimit → getD now j noEntry ≡ cond (eqb (getD numbers j 0) (i + 1)) stamp (getD stamps j noEntry))
           → Stamping bytes es numbers after now next (i + 1)
       stamped-on stamp after arrives now whole entry =
-          let a = arrives (s .gone) (s .held) room (in-limits (s .ahead) e next q) in
+          let a = arrives (s .gone) (s .held) room (within-limits (s .passed) (ahead l) e next q) in
           record {
             gone = longer;
-            ahead = onward (s .ahead) e next q;
+            passed = past-it (s .passed) (ahead l) e next q;
             count = length-append (s .gone) (e ∷ []) ∙ ap (λ (k : ℕ). k + 1) (s .count);
             held = a .holds;
             whole = whole;
@@ -93,5 +97,5 @@ module _ {bytes : List ℕ} {es : List Event} (r : ReadAs bytes es) {numbers : L
     -- the pass has come to event number n
     pub all-stamped : {n : ℕ} → n ≤ i → StampsTo es numbers n stamps
     all-stamped {n} l j m u v =
-        subst (λ (xs : List Event). StampOf xs (getD numbers j 0) (getD stamps j noEntry)) (sym (s .ahead .midway .whole))
-        (stamp-stays (s .gone) (s .ahead .midway .rest) (getD numbers j 0) (getD stamps j noEntry) u (let c = s .count in omega arith) (s .kept j m u (omega arith)))
+        subst (λ (xs : List Event). StampOf xs (getD numbers j 0) (getD stamps j noEntry)) (sym (s .passed .whole))
+        (stamp-stays (s .gone) (s .passed .rest) (getD numbers j 0) (getD stamps j noEntry) u (let c = s .count in omega arith) (s .kept j m u (omega arith)))

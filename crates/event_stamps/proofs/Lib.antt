@@ -1,0 +1,2 @@
+-- The pass that keeps stamps.
+pub mod Stamping

@@ -1,0 +1,2 @@
+-- The stamps of given events.
+pub mod EventStamps

@@ -1,0 +1,2 @@
+-- The pass that keeps the last event that fits.
+pub mod Fitting

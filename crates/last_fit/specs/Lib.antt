@@ -1,0 +1,2 @@
+-- Which event is the last that fits a slot.
+pub mod LastFit
