@@ -1,4 +1,4 @@
--- Document 01's orders, matches, counts, first example and stamps: what crate `trace` defines for any events and slots, at the events of a log,
+-- Document 01's orders, matches, counts, first example and stamps, and why there is no match: what crate `trace` defines for any events and slots, at the events of a log,
 -- those of them that are dependent, and those that fit a slot.
 -- Assumes nothing.
 use Prim.Native.Nat.{ℕ}
@@ -10,6 +10,7 @@ use Rattle.trace.specs.Swaps as swaps
 use Rattle.trace.specs.Before as numbers
 use Rattle.trace.specs.Match as patterns
 use Rattle.trace.specs.First as first
+use Rattle.trace.specs.Reason as reasons
 use Rattle.trace.specs.Stamps as stamps
 use Rattle.dependence.specs.Dependence.{dependent}
 
@@ -40,6 +41,11 @@ Named = patterns.Named dependent fits
 -- where they differ": a pattern, a list, the count, and the numbers
 abbrev pub IsFirst : List Slot → List Event → ℕ → List ℕ → Type 0
 IsFirst = first.IsFirst dependent fits
+
+-- "the number k of the first slot that can't be filled, the first events for slots 1 to k-1 .., and one of two cases": a pattern, a list, those events, and
+-- the case
+abbrev pub Reason : List Slot → List Event → List ℕ → reasons.Obstacle → Type 0
+Reason = reasons.Reason dependent fits
 
 abbrev pub threadOf : Event → ℕ
 threadOf e = e .thread

@@ -28,7 +28,7 @@ use Rattle.clock.specs.Clocks.{up}
 use Rattle.log.proofs.Leading.{Midway, at-start, past-it}
 use Rattle.passes.specs.Passes.{Leads}
 use Rattle.passes.proofs.Passes.{seenOf, counts-up}
-use Rattle.last_fit.specs.declared.Placed.{Placed}
+use Rattle.last_fit.specs.declared.PlacedEvent.{PlacedEvent}
 use Rattle.last_fit.specs.LastFit.{LastFit, never, last}
 
 -- ---- one event more
@@ -84,7 +84,7 @@ module _ (es : List Event) (slot : Slot) (e : Event) where
 -- ---- the pass
 
 -- i events gone past, so many of them of the slot's thread, and the last of them that fits
-pub record Passed (bytes : List ℕ) (es : List Event) (slot : Slot) (kept : Placed) (place at i : ℕ) : Type 0 where
+pub record Passed (bytes : List ℕ) (es : List Event) (slot : Slot) (kept : PlacedEvent) (place at i : ℕ) : Type 0 where
   pub gone : List Event
   pub passed : Midway bytes es gone at
   pub count : length gone ≡ i
@@ -98,7 +98,7 @@ module _ {bytes : List ℕ} {es : List Event} {n : ℕ} (ls : Leads bytes es n) 
       none : (i : ℕ) (e : Event) → Numbered [] i e → fits slot e ≡ false
       none i e m = let u = numbered-among m in absurd (let z : ⊥ = omega arith in z)
 
-  module _ {kept : Placed} {place at i : ℕ} (s : Passed bytes es slot kept place at i) where
+  module _ {kept : PlacedEvent} {place at i : ℕ} (s : Passed bytes es slot kept place at i) where
     pub ahead : i < n → length (s .gone) < length es
     ahead l = let c = ls .count in let g = s .count in omega arith
 
@@ -106,7 +106,7 @@ module _ {bytes : List ℕ} {es : List Event} {n : ℕ} (ls : Leads bytes es n) 
       abbrev counted-up : ℕ
       counted-up = cond (eqb (e .thread) (slot .thread)) (up place) place
 
-      abbrev kept-then : Placed
+      abbrev kept-then : PlacedEvent
       kept-then = cond (fits slot e) (record { number = i + 1; place = counted-up }) kept
 
       up-is : counted-up ≡ seenOf (s .gone ++ (e ∷ [])) (slot .thread)

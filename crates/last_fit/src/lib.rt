@@ -9,16 +9,16 @@ ghost use Rattle.passes.specs.Passes.{Leads};
 ghost use Rattle.last_fit.specs.LastFit.{LastFit};
 
 // The number of an event, and its place among the events of its thread; 0 and 0 where there is none.
-pub struct Placed {
+pub struct PlacedEvent {
     pub number: usize,
     pub place: u16,
 }
 
 // The last of the n events of a log that fits the slot.
-pub fn last_fit(log: &[u8], n: usize, slot: Slot) -> Placed
+pub fn last_fit(log: &[u8], n: usize, slot: Slot) -> PlacedEvent
     ensures { λ r. ⌜ ((es : List Event) → Leads (now (log .entry)) es n → LastFit es slot (r .number) (r .place)) ⌝ }
 {
-    let mut last = Placed {
+    let mut last = PlacedEvent {
         number: 0,
         place: 0,
     };
@@ -40,11 +40,11 @@ pub fn last_fit(log: &[u8], n: usize, slot: Slot) -> Placed
 }
 
 // The event of this number and place, where it fits; else the last one so far.
-fn later(fits: bool, number: usize, place: u16, last: Placed) -> Placed
+fn later(fits: bool, number: usize, place: u16, last: PlacedEvent) -> PlacedEvent
     ensures { λ r. ⌜ r ≡ cond fits (record { number = number; place = place }) last ⌝ }
 {
     if fits {
-        return Placed { number, place };
+        return PlacedEvent { number, place };
     }
     last
 }

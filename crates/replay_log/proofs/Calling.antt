@@ -13,15 +13,14 @@ use denote.Enum.Declared.{tagOf}
 use borrow.Author.Tests.{ltb-true, ltb-false}
 use Rattle.event.specs.declared.Event.{Event}
 use Rattle.event.specs.declared.Slot.{Slot}
-use Rattle.event.specs.Limits.{slots as slotLimit, events}
-use Rattle.rules.specs.Accepted.{AcceptedAfter, one-more}
-use Rattle.rules.proofs.StateLaws.{clear}
+use Rattle.event.specs.Limits.{slots as slotLimit}
 use Rattle.trace.specs.Match.{smallest, without}
 use Rattle.trace.proofs.Rows.{each-length, each-mem}
 use Rattle.trace.proofs.Numbers.{numbered-among}
 use Rattle.dependence.specs.Order.{IsCount, Named}
 use Rattle.command.specs.Bytes.{Bytes}
 use Rattle.log.specs.Whole.{Whole, readLog, readPattern, accepted, refused, patternFrom, logBytes}
+use Rattle.log.proofs.Leading.{few-events}
 use Rattle.log.proofs.LogRoundTrip.{log-calls}
 use Rattle.log.proofs.PatternRoundTrip.{pattern-iff}
 use Rattle.session.specs.Answers.{Ruling, Refused, nothing, Given}
@@ -34,13 +33,8 @@ use Rattle.replay_passes.specs.Copies.{ReadAs, NamedAmong, Replays}
 use Rattle.replay_log.specs.declared.Replayed.{Replayed}
 use Rattle.replay_log.specs.Replay.{ReplayOf, tooShort, withoutMatch}
 
--- an accepted log has no more events than the limit
-few-events : {past : List Event} (es : List Event) → AcceptedAfter past es → length past ≤ events → length past + length es ≤ events
-few-events [] a l = omega arith
-few-events {past} (e ∷ es) (one-more z a) l = let h = few-events es a (let r = clear past e z .room in r) in omega arith
-
 pub read-whole : (bytes : List ℕ) → Bytes bytes → (es : List Event) → readLog bytes ≡ accepted es → ReadAs bytes es
-read-whole bytes b es q = let c = log-calls bytes es .0 q in record { bytes-are = b; calls = c .0; few = let h = few-events es (c .1) (omega arith) in omega arith }
+read-whole bytes b es q = let c = log-calls bytes es .0 q in record { bytes-are = b; calls = c .0; few = few-events es (c .1) }
 
 -- ---- what a run that refused nothing said
 

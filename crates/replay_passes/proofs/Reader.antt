@@ -18,8 +18,7 @@ use Rattle.command.proofs.EventRead.{the-type}
 use Rattle.command.proofs.Held.{was-taken, was-closed}
 use Rattle.command.proofs.Inversion.{Found, decode-found, goes-on, not-closed}
 use Rattle.log.specs.Leading.{Leading}
-use Rattle.log.specs.Calls.{ReadCalls}
-use Rattle.log.proofs.Leading.{Midway, past-it, past-to, within-limits, not-absent}
+use Rattle.log.proofs.Leading.{calls-lead, Midway, past-it, past-to, within-limits, not-absent}
 use Rattle.passes.specs.Passes.{Leads}
 use Rattle.replay_passes.specs.Copies.{ReadAs}
 
@@ -28,19 +27,14 @@ pub record Ahead (bytes : List ℕ) (es gone : List Event) (at : ℕ) : Type 0 w
   pub midway : Midway bytes es gone at
   pub ends : readEvent bytes (midway .to) ≡ closed
 
-module _ (bytes : List ℕ) where
-  leading : {at : ℕ} {es : List Event} → ReadCalls (readEvent bytes) at es → (to : ℕ) × Leading (readEvent bytes) to at es × (readEvent bytes to ≡ closed)
-  leading (ReadCalls.end {at = at} q) = (at, Leading.none, q)
-  leading (ReadCalls.more q r) = let l = leading r in (l .0, Leading.more q (l .1), l .2)
-
 module _ {bytes : List ℕ} where
   -- all events lead it
   pub leads : {es : List Event} → ReadAs bytes es → Leads bytes es (length es)
-  leads r = let l = leading bytes (r .calls) in record { to = l .0; read = l .1; count = refl; few = r .few }
+  leads r = let l = calls-lead bytes (r .calls) in record { to = l .0; read = l .1; count = refl; few = r .few }
 
   pub from-start : {es : List Event} → ReadAs bytes es → Ahead bytes es [] 0
   from-start {es} r =
-      let l = leading bytes (r .calls) in
+      let l = calls-lead bytes (r .calls) in
       record { midway = record { rest = es; to = l .0; whole = refl; ahead = l .1 }; ends = l .2 }
 
   module _ {es gone : List Event} {at : ℕ} (a : Ahead bytes es gone at) where

@@ -30,9 +30,9 @@ use Rattle.first.specs.declared.Search.{Search}
 use Rattle.passes.specs.Passes.{SlotsOf}
 use Rattle.first.specs.Holding.{chosenBy, Settled}
 use Rattle.first.proofs.Filling.{no-numbers, ss-length}
-use Rattle.slot_search.specs.declared.Searched.{Searched}
+use Rattle.slot_search.specs.declared.LogSearch.{LogSearch}
 use Rattle.slot_search.specs.Patterns.{Usable}
-use Rattle.slot_search.specs.Searched.{SearchedIn}
+use Rattle.slot_search.specs.Searching.{SearchedIn}
 use Rattle.slot_search.proofs.Usable.{slots-taken}
 use Rattle.run.specs.declared.Judged.{Judged}
 use Rattle.run.specs.declared.Outcome.the-variants.{PatternRefused}
@@ -129,7 +129,7 @@ module _ {slots : List Slot} {keys : List ℕ} {size : ℕ} (so : SlotsOf slots 
 pub slots-of : {p : Pattern} → Usable p → SlotsOf (p .slots) (slotKeys (p .slots)) (p .size)
 slots-of u = record { few = u .few; whole = u .whole; keyed = refl; low = u .low }
 
-pub searched-verdict : {p : Pattern} (u : Usable p) {bytes : List ℕ} (r : Searched) → SearchedIn (p .slots) (p .size) bytes r
+pub searched-verdict : {p : Pattern} (u : Usable p) {bytes : List ℕ} (r : LogSearch) → SearchedIn (p .slots) (p .size) bytes r
     → RunOn (take (p .size) (p .slots)) bytes (judgedIs (judgedAfter (p .size) r))
 searched-verdict {p} u {bytes} r h = go (r .read) (h .answer)
   where

@@ -9,7 +9,7 @@ use Rattle.session.specs.Answers.{refusal, nothing, pattern, log, Given}
 use Rattle.log.specs.declared.LogRead.{LogRead}
 use Rattle.log.specs.declared.LogRead.the-variants as read
 use Rattle.first.specs.declared.Search.{Search}
-use Rattle.slot_search.specs.declared.Searched.{Searched}
+use Rattle.slot_search.specs.declared.LogSearch.{LogSearch}
 use Rattle.run.specs.declared.Outcome.{Outcome}
 use Rattle.run.specs.declared.Outcome.the-variants as outcome
 use Rattle.run.specs.declared.Judged.{Judged}
@@ -42,5 +42,5 @@ abbrev pub judgedOn : LogRead → ℕ → Search → Judged
 judgedOn (read.Accepted n) size s = judgedBy (eqb (s .found) size) (s .numbers)
 judgedOn (read.LogRefused k o) size s = record { outcome = outcome.LogRefused k o; numbers = replicate slotLimit 0 }
 
-abbrev pub judgedAfter : ℕ → Searched → Judged
+abbrev pub judgedAfter : ℕ → LogSearch → Judged
 judgedAfter size r = judgedOn (r .read) size (r .search)

@@ -2,7 +2,7 @@
 use log::LogRead;
 use log::Pattern;
 use log::PatternAnswer;
-use slot_search::Searched;
+use slot_search::LogSearch;
 ghost use mathlib.Core.Path.{_≡_};
 ghost use lib.ListN.{replicate, take};
 ghost use Rattle.event.specs.Limits.{slots as slotLimit};
@@ -54,7 +54,7 @@ pub fn pattern_refused(number: u8, offset: usize) -> Judged
 }
 
 // What a search for so many slots says of the log.
-pub fn judge(size: usize, searched: Searched) -> Judged
+pub fn judge(size: usize, searched: LogSearch) -> Judged
     ensures { λ r. ⌜ r ≡ judgedAfter size searched ⌝ }
 {
     let read = searched.read;

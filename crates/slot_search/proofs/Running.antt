@@ -30,7 +30,7 @@ use Rattle.passes.specs.Passes.{Leads, SlotsOf, LastsOf}
 use Rattle.first.specs.Holding.{Settled, NextIs, Following, Newest}
 use Rattle.first.proofs.Filling.{none-found}
 use Rattle.first.proofs.Arriving.{newest, goes-by, hits}
-use Rattle.slot_search.specs.Searched.{SearchedIn}
+use Rattle.slot_search.specs.Searching.{SearchedIn}
 
 pub record Running (bytes : List ℕ) (slots : List Slot) (keys : List ℕ) (size : ℕ) (state clocks last : List ℕ) (s : Search) (taken at : ℕ) : Type 0 where
   pub past : List Event

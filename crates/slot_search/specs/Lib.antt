@@ -1,3 +1,3 @@
 -- Which patterns can be looked for, and what a search through a whole log gives.
 pub mod Patterns
-pub mod Searched
+pub mod Searching

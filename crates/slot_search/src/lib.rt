@@ -9,16 +9,16 @@ ghost use mathlib.Core.Path.{_≡_};
 ghost use Rattle.first.specs.Search.{noneFound, fillsSlot};
 ghost use Rattle.log.specs.declared.LogRead.the-variants as LogRead;
 ghost use Rattle.slot_search.specs.Patterns.{Usable};
-ghost use Rattle.slot_search.specs.Searched.{SearchedIn};
+ghost use Rattle.slot_search.specs.Searching.{SearchedIn};
 
 // What reading the log gives, and the search at its end; where the log is refused, a search that has found nothing.
-pub struct Searched {
+pub struct LogSearch {
     pub read: LogRead,
     pub search: Search,
 }
 
 // One pass over the log: each event goes by the rules, and the first that fits the slot looked for fills it.
-pub fn search(p: Pattern, log: &[u8]) -> Searched
+pub fn search(p: Pattern, log: &[u8]) -> LogSearch
     requires { ⌜ Usable p ⌝ }
     ensures { λ r. ⌜ SearchedIn (p .slots) (p .size) (now (log .entry)) r ⌝ }
 {
@@ -35,7 +35,7 @@ pub fn search(p: Pattern, log: &[u8]) -> Searched
         let found = log::step(log, at, &mut state, taken);
         let Stepped::Event { event, next } = found else {
             let Stepped::LogRefused { number, offset } = found else {
-                return Searched {
+                return LogSearch {
                     read: LogRead::Accepted { events: taken },
                     search: s,
                 };
@@ -78,10 +78,10 @@ fn fills(slots: [Slot; event::SLOTS], k: usize, e: Event) -> bool
     event::fit(slot, e)
 }
 
-fn log_refused(keys: [u16; event::SLOTS], number: u8, offset: usize) -> Searched
+fn log_refused(keys: [u16; event::SLOTS], number: u8, offset: usize) -> LogSearch
     ensures { λ r. ⌜ r ≡ record { read = LogRead.LogRefused number offset; search = noneFound keys } ⌝ }
 {
-    Searched {
+    LogSearch {
         read: LogRead::LogRefused { number, offset },
         search: first::none_found(keys),
     }

@@ -1,10 +1,10 @@
 -- A list's events by their numbers: the specification's `Numbered`, `ComesBefore` and `Named` against number-level terms,
 -- with computed twins.
 -- Assumes nothing.
-use mathlib.Core.Path.{_≡_, refl, sym, ap, ap₂, _∙_}
+use mathlib.Core.Path.{_≡_, refl, sym, ap, ap₂, subst, _∙_}
 use mathlib.Core.Logic.{_↔_}
 use mathlib.Core.Bool.{Bool, true, _&&_, and-eq-true-iff}
-use mathlib.Core.List.{List, [], _∷_, _++_, map, List·Memᴰ as Mem}
+use mathlib.Core.List.{List, [], _∷_, _++_, map, List·Memᴰ as Mem, List·Memᴰ·head as head, List·Memᴰ·tail as tail}
 use Prim.Native.Nat.{ℕ, zero, suc, _+_, _≤_, _<_}
 use native.Mathlib.Nat.{add-zero}
 use native.Mathlib.Omega.{arith}
@@ -25,6 +25,15 @@ module _ {E : Type 0} where
   pub numbered-among : {log : List E} {i : ℕ} {e : E} → Numbered log i e → Among (length log) i
   numbered-among first = omega arith
   numbered-among (next n) = let h = numbered-among n in omega arith
+
+  -- and the events that have a number are those of the list
+  pub numbered-mem : {log : List E} {i : ℕ} {e : E} → Numbered log i e → Mem e log
+  numbered-mem first = head refl
+  numbered-mem (next n) = tail (numbered-mem n)
+
+  pub mem-numbered : {log : List E} {e : E} → Mem e log → (i : ℕ) × Numbered log i e
+  mem-numbered {log = a ∷ log} (head q) = (1, subst (Numbered (a ∷ log) 1) (sym q) first)
+  mem-numbered (tail m) = let r = mem-numbered m in (suc (r .0), next (r .1))
 
   -- later events change no number
   pub numbered-append : {log : List E} {i : ℕ} {e : E} (later : List E) → Numbered log i e → Numbered (log ++ later) i e

@@ -19,7 +19,7 @@ use Rattle.trace.specs.Tuples.{Among, Before, Fitting, Good, eventAt, de
 use Rattle.trace.proofs.Lists.{true-or-false, both-ways, failed, any-none, any-true}
 use Rattle.trace.proofs.Rows.{each-mem, each-split, pairs-left, pairs-across}
 use Rattle.trace.proofs.Before.{before, before-true, before-dep, before-trans}
-use Rattle.trace.proofs.Numbers.{numbered-among, numbered-at, at-numbered, comes-before, before-comes, comes?, comes?-iff}
+use Rattle.trace.proofs.Numbers.{numbered-mem, numbered-among, numbered-at, at-numbered, comes-before, before-comes, comes?, comes?-iff}
 use Rattle.trace.proofs.Numbers.{named-good, good-named}
 use Rattle.trace.proofs.Matches.{match-good}
 use Rattle.trace.proofs.Search.{may, clear-may}
@@ -28,13 +28,6 @@ use Rattle.trace.proofs.FirstChoice.{NoneOf, none-up, Chosen, start, ne
 use Rattle.trace.proofs.First.{ChosenOf, StuckOf, chosen-named, named-least, chosen-match, least-smaller}
 
 -- ---- numbers and lists
-
-numbered-mem : {A : Type 0} {xs : List A} {i : ℕ} {x : A} → Numbered xs i x → Mem x xs
-numbered-mem Numbered.first = head refl
-numbered-mem (Numbered.next n) = tail (numbered-mem n)
-
-numbered-one : {A : Type 0} {xs : List A} {i : ℕ} {x y : A} → Numbered xs i x → Numbered xs i y → x ≡ y
-numbered-one {x = x} m n = sym (numbered-at x m) ∙ numbered-at x n
 
 -- the first of the numbers that passes a test, by its place among them; or that none does
 data LowestIn (p : ℕ → Bool) (cs : List ℕ) : Type 0 where
@@ -137,9 +130,9 @@ module _ {E S : Type 0} (other : E) (dep : E → E → Bool) (fits : S → E →
   listed h i m = numbered-among (each-mem (h .fitting) m .2 .1)
 
   -- each event that fits the slot comes before one of those chosen or is it
-  pub stuck-barred : {ss : List S} (left : List S) {s : S} {n : ℕ} {cs : List ℕ} → Named dep fits ss log n cs
+  pub stuck-barred : (left : List S) {s : S} {cs : List ℕ} → ((c : ℕ) → Mem c cs → Among (length log) c)
       → StuckOf other dep fits log (s ∷ left) cs → {i : ℕ} {e : E} → Numbered log i e → fits s e ≡ true → (c : ℕ) × Mem c cs × ComesBefore dep log i c
-  stuck-barred left {s} {cs = cs} h d {i} {e} n f = go (lowest-in (comes? other dep log i) cs)
+  stuck-barred left {s} {cs} h d {i} {e} n f = go (lowest-in (comes? other dep log i) cs)
     where
       go : LowestIn (comes? other dep log i) cs → (c : ℕ) × Mem c cs × ComesBefore dep log i c
       go (found {c = c} m t k) = (c, numbered-mem m, comes?-iff other dep log i c .0 t)
@@ -151,7 +144,7 @@ module _ {E S : Type 0} (other : E) (dep : E → E → Bool) (fits : S → E →
         where
           clear : (c : ℕ) → Mem c cs → ¬ Before (depAt other dep log) i c
           clear c m b =
-              both-ways (comes?-iff other dep log i c .1 (before-comes other dep log (numbered-among n .0) (listed h c m .1) b)) (k c m)
+              both-ways (comes?-iff other dep log i c .1 (before-comes other dep log (numbered-among n .0) (h c m .1) b)) (k c m)
 
   module _ (law : LawL dep fits) where
     -- those chosen are the first events for their slots
@@ -200,7 +193,7 @@ module _ {E S : Type 0} (other : E) (dep : E → E → Bool) (fits : S → E →
               (λ j e v m w. both-ways (comes?-iff other dep log l e .1 w) (b j e v m)),
         )
         lowest {l} u t h (nowhere b) =
-            let r = stuck-barred left (events .named) d (at-numbered other log l u) t in
+            let r = stuck-barred left (listed (events .named)) d (at-numbered other log l u) t in
             absurd (both-ways (comes?-iff other dep log l (r .0) .1 (r .2)) (b (r .0) (r .1)))
 
         way : LastOf (fitsAt other fits log s) (length log) → (o : Obstacle) × InTheWay dep fits log s cs o

@@ -8,10 +8,10 @@ use Rattle.event.specs.declared.Slot.{Slot}
 use Rattle.log.specs.Whole.{accepted, refused, readLog, outcomeOf, logReadIs}
 use Rattle.first.specs.Search.{noneFound}
 use Rattle.first.specs.Holding.{Settled}
-use Rattle.slot_search.specs.declared.Searched.{Searched}
+use Rattle.slot_search.specs.declared.LogSearch.{LogSearch}
 
 -- what reading the log gives; and the choice slot by slot as far as its events take it, or nothing found where the log is refused
-pub record SearchedIn (slots : List Slot) (size : ℕ) (bytes : List ℕ) (r : Searched) : Type 0 where
+pub record SearchedIn (slots : List Slot) (size : ℕ) (bytes : List ℕ) (r : LogSearch) : Type 0 where
   pub answer : logReadIs (r .read) ≡ outcomeOf (readLog bytes)
   pub within : r .search .found ≤ size
   pub settled : (es : List Event) → readLog bytes ≡ accepted es → Settled es slots size (r .search)
