@@ -14,11 +14,11 @@ use Rattle.height.specs.Rounding.{metresOf}
 use Rattle.run.specs.declared.Outcome.{Outcome}
 use Rattle.run.specs.declared.Outcome.the-variants.{Match, None, PatternRefused, LogRefused}
 use Rattle.log.specs.Number.{nthEvent}
-use Rattle.page.specs.Text.{decimal}
+use Rattle.page.specs.Text.{ascii, decimal}
 use Rattle.page.specs.Lines.{refusalLine}
 use Rattle.page.specs.Page.{room}
 use Rattle.page.proofs.Lengths.{number, refusal}
-use Rattle.listing_text.specs.Text.{metresText, heightText, operationText, slotLine}
+use Rattle.listing_text.specs.Text.{metresText, heightText, operationText, slotText, slotLine}
 use Rattle.listing_text.specs.OutcomeText.{linesOf, textOf}
 
 metres : (m : Metres) → length (metresText m) ≤ 42
@@ -40,15 +40,18 @@ operation (Fork c) = let d : length (decimal c) ≤ 20 = number c in simp length
 operation (Join c) = let d : length (decimal c) ≤ 20 = number c in simp length-append (omega arith)
 operation (Mark m) = let d : length (decimal m) ≤ 20 = number m in simp length-append (omega arith)
 
-line : (slot n : ℕ) (e : Event) → length (slotLine slot n e) ≤ 146
-line slot n e =
+pub slot-text : (slot n : ℕ) (e : Event) → length (slotText slot n e) ≤ 145
+slot-text slot n e =
     let a : length (decimal slot) ≤ 20 = number slot in
     let b : length (decimal n) ≤ 20 = number n in
     let c : length (decimal (e .thread)) ≤ 20 = number (e .thread) in
     let d : length (operationText (e .operation)) ≤ 69 = operation (e .operation) in
     simp length-append (omega arith)
 
-lines : (bytes : List ℕ) (slot : ℕ) (ns : List ℕ) → length (linesOf bytes slot ns) ≤ 146 * length ns
+line : (slot n : ℕ) (e : Event) → length (slotLine slot n e) ≤ 146
+line slot n e = let h : length (slotText slot n e) ≤ 145 = slot-text slot n e in omega (arith, length-append (slotText slot n e) (ascii "\n"))
+
+pub lines : (bytes : List ℕ) (slot : ℕ) (ns : List ℕ) → length (linesOf bytes slot ns) ≤ 146 * length ns
 unfolding linesOf
 lines bytes slot [] = omega arith
 lines bytes slot (n ∷ ns) =

@@ -32,10 +32,14 @@ operationText (Fork c) = ascii "fork " ++ decimal c
 operationText (Join c) = ascii "join " ++ decimal c
 operationText (Mark m) = ascii "mark " ++ decimal m
 
--- "a line per slot: slot number, `event`, its number, `thread`, its number", then the operation; "Each line ends in a line feed."
+-- "a line per slot: slot number, `event`, its number, `thread`, its number", then the operation
+abbrev pub slotText : ℕ → ℕ → Event → List ℕ
+slotText slot n e =
+    decimal slot ++ ascii " event " ++ decimal n ++ ascii " thread " ++ decimal (e .thread) ++ ascii " " ++ operationText (e .operation)
+
+-- "Each line ends in a line feed."
 abbrev pub slotLine : ℕ → ℕ → Event → List ℕ
-slotLine slot n e =
-    decimal slot ++ ascii " event " ++ decimal n ++ ascii " thread " ++ decimal (e .thread) ++ ascii " " ++ operationText (e .operation) ++ ascii "\n"
+slotLine slot n e = slotText slot n e ++ ascii "\n"
 
 -- "`pattern refused K at B` for the pattern"
 abbrev pub patternRefusalLine : ℕ → ℕ → List ℕ

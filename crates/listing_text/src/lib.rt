@@ -11,7 +11,7 @@ ghost use mathlib.Core.Bool.{cond};
 ghost use mathlib.Core.List.{[]};
 ghost use Rattle.page.specs.Text.{ascii};
 ghost use Rattle.page.specs.Page.{emptyPage, onto, Adds};
-ghost use Rattle.listing_text.specs.Text.{metresText, heightText, operationText, slotLine, matchLine};
+ghost use Rattle.listing_text.specs.Text.{metresText, heightText, operationText, slotText, slotLine, matchLine};
 ghost use Rattle.listing_text.specs.OutcomeText.{linesOf, textOf};
 ghost use Rattle.listing_text.specs.Listing.{Listing, ListedIn};
 
@@ -39,7 +39,8 @@ fn listing(pattern: &[u8], log: &[u8]) -> Page
     verdict(p, judged, log)
 }
 
-fn verdict(p: Page, judged: Judged, log: &[u8]) -> Page
+// What a run said.
+pub fn verdict(p: Page, judged: Judged, log: &[u8]) -> Page
     ensures { λ r. ⌜ r ≡ onto p (textOf (now (log .entry)) (judged .outcome) (judged .numbers)) ⌝ }
 {
     let outcome = judged.outcome;
@@ -60,7 +61,7 @@ pub fn match_line(p: Page, count: usize) -> Page
 }
 
 // The lines of the slots: the event of each number, from the log. A number 0 stands beyond the last slot.
-fn slot_lines(from: Page, log: &[u8], numbers: [u16; event::SLOTS]) -> Page
+pub fn slot_lines(from: Page, log: &[u8], numbers: [u16; event::SLOTS]) -> Page
     ensures { λ r. ⌜ r ≡ onto from (linesOf (now (log .entry)) 1 numbers) ⌝ }
 {
     let mut p = from;
@@ -78,13 +79,20 @@ fn slot_lines(from: Page, log: &[u8], numbers: [u16; event::SLOTS]) -> Page
 fn slot_line(p: Page, slot: usize, n: usize, e: Event) -> Page
     ensures { λ r. ⌜ r ≡ onto p (slotLine slot n e) ⌝ }
 {
+    let f = slot_text(p, slot, n, e);
+    f.text(b"\n")
+}
+
+// A slot's line without its line feed.
+pub fn slot_text(p: Page, slot: usize, n: usize, e: Event) -> Page
+    ensures { λ r. ⌜ r ≡ onto p (slotText slot n e) ⌝ }
+{
     let a = p.number(slot);
     let b = a.word(b" event ", n);
     let c = b.word(b" thread ", e.thread as usize);
     let d = c.text(b" ");
     let op = e.operation;
-    let f = operation_text(d, op);
-    f.text(b"\n")
+    operation_text(d, op)
 }
 
 fn operation_text(p: Page, op: Operation) -> Page

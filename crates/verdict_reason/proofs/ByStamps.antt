@@ -1,5 +1,5 @@
 -- The last event that fits a slot comes before the event of an earlier one, or is it, exactly where that one's stamp counts as far as its place.
-use Prim.Native.Nat.{ℕ, zero, suc, _≤_, _<_, max}
+use Prim.Native.Nat.{ℕ, zero, suc, _+_, _≤_, _<_, max}
 use native.Mathlib.Decide.{decLt}
 use native.Mathlib.Omega.{arith}
 use mathlib.Core.Path.{_≡_, refl, sym, ap, subst, _∙_}
@@ -29,7 +29,7 @@ use Rattle.clock.specs.Clocks.{countOf}
 use Rattle.event_stamps.specs.EventStamps.{noEntry, StampsTo}
 use Rattle.last_fit.specs.LastFit.{LastFit, never, last}
 use Rattle.run.specs.Answers.{greatestOf}
-use Rattle.verdict_reason.specs.Reasons.{stated}
+use Rattle.verdict_reason.specs.declared.Cause.the-variants.{NoFit, TooEarly}
 use Rattle.verdict_reason.specs.Causes.{Stopped, Causes, countsAt}
 
 -- ---- the greatest of the numbers
@@ -104,11 +104,11 @@ module _ {es : List Event} {slot : Slot} {k : ℕ} {numbers : List ℕ} (s : Sto
         let r = take-numbered numbers k (i .1) in
         absurd (both-ways (comes-by-place (r .0) (r .2) .1 (rw (r .3) at (c .2))) (none (suc (r .0)) (omega arith) (let v = r .2 in omega arith)))
 
-  -- what the last event that fits the slot tells
-  pub too-soon : {l p i : ℕ} → LastFit es slot l p → (l ≡ 0 → ⊥) → Lowest (countsAt stamps (slot .thread) p) k i → Causes es slot k numbers (stated (suc k) l i)
+  -- what the last event that fits the slot says
+  pub too-soon : {l p i : ℕ} → LastFit es slot l p → (l ≡ 0 → ⊥) → Lowest (countsAt stamps (slot .thread) p) k i → Causes es slot k numbers (TooEarly (k + 1) l i)
   too-soon (never d) z low = absurd (z refl)
   too-soon {i = i} (last {l = l} n f h) z low = record { obstacle = last-fit l i; is = refl; stands = in-the-way n f h low }
 
-pub none-fit : {es : List Event} {slot : Slot} {k : ℕ} {numbers : List ℕ} {l p : ℕ} → LastFit es slot l p → l ≡ 0 → Causes es slot k numbers (stated (suc k) 0 0)
+pub none-fit : {es : List Event} {slot : Slot} {k : ℕ} {numbers : List ℕ} {l p : ℕ} → LastFit es slot l p → l ≡ 0 → Causes es slot k numbers (NoFit (k + 1))
 none-fit (never d) z = record { obstacle = no-fit; is = refl; stands = none-fits d }
 none-fit (last n f h) z = let u = numbered-among n in absurd (let w : ⊥ = omega arith in w)

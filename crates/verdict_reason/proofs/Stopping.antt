@@ -1,6 +1,7 @@
 -- A search that has come to a log's end without an event for some slot: what stands in that slot's way is the reason.
 use Prim.Native.Nat.{ℕ, suc, _+_, _-_, _≤_, _<_}
 use native.Mathlib.Omega.{arith}
+use native.Mathlib.Numerals.{add-one}
 use mathlib.Core.Path.{_≡_, refl, sym, ap, ap₂, subst, _∙_}
 use mathlib.Core.List.{List, [], _∷_, _++_, List·Memᴰ as Mem}
 use lib.ListN.{length, getD, take, drop, replicate, length-drop, take-append-drop}
@@ -36,7 +37,9 @@ use Rattle.session.specs.Answers.{Given}
 use Rattle.session.specs.Meaning.{RunOn}
 use Rattle.run.specs.Answers.{judgedIs, judgedAfter}
 use Rattle.run.proofs.Verdict.{slots-of, searched-verdict}
-use Rattle.verdict_reason.specs.Reasons.{Stated, stated, statedOf, ReasonOn, log-refused, match, no-match, ReasonOf, over-log}
+use Rattle.verdict_reason.specs.declared.Cause.{Cause}
+use Rattle.verdict_reason.specs.declared.Cause.the-variants.{Decided}
+use Rattle.verdict_reason.specs.Reasons.{causeOf, ReasonOn, log-refused, match, no-match, ReasonOf, over-log}
 use Rattle.verdict_reason.specs.Causes.{Stopped, Causes}
 use Rattle.verdict_reason.proofs.ByStamps.{numbered-take}
 
@@ -81,9 +84,9 @@ module _ {p : Pattern} (u : Usable p) {es : List Event} {s : Search} (h : Settle
       listed = chosen-among noEvent dependent threadOf fits es (h .found .steps)
 
   -- the reason, in numbers and places
-  pub reason-given : {g : Given} {bytes : List ℕ} {t : Stated} → RunOn ss bytes g → readLog bytes ≡ accepted es → Causes es slot (s .found) (s .numbers) t
-      → ReasonOn ss bytes g t (s .numbers)
-  reason-given {g} {bytes} {t} r q c = go (c .is)
+  pub reason-given : {g : Given} {bytes : List ℕ} {cause : Cause} → RunOn ss bytes g → readLog bytes ≡ accepted es → Causes es slot (s .found) (s .numbers) cause
+      → ReasonOn ss bytes g cause (s .numbers)
+  reason-given {g} {bytes} {cause} r q c = go (c .is)
     where
       long : length (chosenBy s) ≡ s .found
       long = length-take-le (s .found) (s .numbers) few
@@ -96,30 +99,30 @@ module _ {p : Pattern} (u : Usable p) {es : List Event} {s : Search} (h : Settle
       why : Reason ss es (chosenBy s) (c .obstacle)
       why = stopped noEvent dependent fits es fit-one-slot (subst (λ (left : List Slot). ChosenOf noEvent dependent fits ss es (chosenBy s) left) left-are (h .found .steps)) (c .stands)
 
-      go : t ≡ statedOf (suc (s .found)) (c .obstacle) → ReasonOn ss bytes g t (s .numbers)
+      go : cause ≡ causeOf (s .found + 1) (c .obstacle) → ReasonOn ss bytes g cause (s .numbers)
       go e =
-          subst (λ (ns : List ℕ). ReasonOn ss bytes g t ns) (sym placed)
-          (subst (λ (x : Stated). ReasonOn ss bytes g x (inPlaces 0 slotLimit (chosenBy s))) (sym (e ∙ ap (λ (n : ℕ). statedOf (suc n) (c .obstacle)) (sym long)))
+          subst (λ (ns : List ℕ). ReasonOn ss bytes g cause ns) (sym placed)
+          (subst (λ (x : Cause). ReasonOn ss bytes g x (inPlaces 0 slotLimit (chosenBy s))) (sym (e ∙ ap (λ (n : ℕ). causeOf n (c .obstacle)) (add-one (s .found) ∙ ap suc (sym long))))
           (no-match r q why))
 
 -- ---- what a search gives
 
 module _ {p : Pattern} (u : Usable p) {bytes : List ℕ} (r : LogSearch) (h : SearchedIn (p .slots) (p .size) bytes r) where
-  abbrev Gives : Stated → List ℕ → Type 0
+  abbrev Gives : Cause → List ℕ → Type 0
   Gives = ReasonOn (take (p .size) (p .slots)) bytes (judgedIs (judgedAfter (p .size) r))
 
   said : RunOn (take (p .size) (p .slots)) bytes (judgedIs (judgedAfter (p .size) r))
   said = searched-verdict u r h
 
-  pub when-refused : {k o : ℕ} → r .read ≡ read.LogRefused k o → Gives (stated 0 0 0) (replicate slotLimit 0)
+  pub when-refused : {k o : ℕ} → r .read ≡ read.LogRefused k o → Gives Decided (replicate slotLimit 0)
   when-refused q = log-refused said (λ e. let z : _≡_ {A = ℕ} 0 1 = cc in let f : ⊥ = omega arith in f)
 
-  pub when-found : {n : ℕ} → r .read ≡ read.Accepted n → r .search .found ≡ p .size → Gives (stated 0 0 0) (replicate slotLimit 0)
+  pub when-found : {n : ℕ} → r .read ≡ read.Accepted n → r .search .found ≡ p .size → Gives Decided (replicate slotLimit 0)
   when-found q e = match said (rw (q, eq-eqb _ _ e) refl)
 
-  pub when-stopped : {n : ℕ} {t : Stated} → r .read ≡ read.Accepted n → ¬ (r .search .found ≡ p .size)
+  pub when-stopped : {n : ℕ} {cause : Cause} → r .read ≡ read.Accepted n → ¬ (r .search .found ≡ p .size)
       → ((es : List Event) → Leads bytes es n → Stopped es (getD (p .slots) (r .search .found) noSlot) (r .search .found) (r .search .numbers)
-      → Causes es (getD (p .slots) (r .search .found) noSlot) (r .search .found) (r .search .numbers) t) → Gives t (r .search .numbers)
+      → Causes es (getD (p .slots) (r .search .found) noSlot) (r .search .found) (r .search .numbers) cause) → Gives cause (r .search .numbers)
   when-stopped {n} q d causes =
       let a = sym (ap logReadIs q) ∙ h .answer in
       let e = told-accepted (readLog bytes) a in
@@ -134,8 +137,8 @@ module _ {p : Pattern} (u : Usable p) {bytes : List ℕ} (r : LogSearch) (h : Se
 
 -- ---- the pattern's answer tells which case its reading was
 
-pub accepted-pattern : (pattern bytes : List ℕ) {n : ℕ} → passed n ≡ outcomeOf (readPattern pattern) → {g : Given} {t : Stated} {events : List ℕ}
-    → ReasonOn (take (patternFrom (readPattern pattern) .size) (patternFrom (readPattern pattern) .slots)) bytes g t events → ReasonOf pattern bytes g t events
-accepted-pattern pattern bytes a {g} {t} {events} h =
+pub accepted-pattern : (pattern bytes : List ℕ) {n : ℕ} → passed n ≡ outcomeOf (readPattern pattern) → {g : Given} {cause : Cause} {events : List ℕ}
+    → ReasonOn (take (patternFrom (readPattern pattern) .size) (patternFrom (readPattern pattern) .slots)) bytes g cause events → ReasonOf pattern bytes g cause events
+accepted-pattern pattern bytes a {g} {cause} {events} h =
     let r = told-accepted (readPattern pattern) a in
-    over-log (r .1) (subst (λ (ss : List Slot). ReasonOn ss bytes g t events) (slots-taken (r .0)) (rw (r .1) at h))
+    over-log (r .1) (subst (λ (ss : List Slot). ReasonOn ss bytes g cause events) (slots-taken (r .0)) (rw (r .1) at h))

@@ -1,5 +1,5 @@
 -- What the steps of the call go by: the slot that can't be filled, and how the stamps of the events before it tell why.
-use Prim.Native.Nat.{ℕ, zero, suc, _≤_, _<_}
+use Prim.Native.Nat.{ℕ, zero, suc, _+_, _≤_, _<_}
 use mathlib.Core.Path.{_≡_}
 use mathlib.Core.Bool.{Bool, true, false}
 use mathlib.Core.List.{List, List·Memᴰ as Mem}
@@ -17,7 +17,8 @@ use Rattle.dependence.specs.Order.{ComesBefore}
 use Rattle.clock.specs.declared.Stamp.{Stamp}
 use Rattle.clock.specs.Clocks.{countOf}
 use Rattle.event_stamps.specs.EventStamps.{noEntry}
-use Rattle.verdict_reason.specs.Reasons.{Stated, statedOf}
+use Rattle.verdict_reason.specs.declared.Cause.{Cause}
+use Rattle.verdict_reason.specs.Reasons.{causeOf}
 
 -- the events of the k slots before it are among those of the log, and each event that fits the slot comes before one of them or is it
 pub record Stopped (es : List Event) (slot : Slot) (k : ℕ) (numbers : List ℕ) : Type 0 where
@@ -27,10 +28,10 @@ pub record Stopped (es : List Event) (slot : Slot) (k : ℕ) (numbers : List ℕ
   pub listed : (j : ℕ) → j < k → Among (length es) (getD numbers j 0)
   pub barred : {i : ℕ} {e : Event} → Numbered es i e → fits slot e ≡ true → (c : ℕ) × Mem c (take k numbers) × ComesBefore es i c
 
--- what is stated stands in its way
-pub record Causes (es : List Event) (slot : Slot) (k : ℕ) (numbers : List ℕ) (t : Stated) : Type 0 where
+-- the cause is what stands in its way
+pub record Causes (es : List Event) (slot : Slot) (k : ℕ) (numbers : List ℕ) (c : Cause) : Type 0 where
   pub obstacle : Obstacle
-  pub is : t ≡ statedOf (suc k) obstacle
+  pub is : c ≡ causeOf (k + 1) obstacle
   pub stands : InTheWay dependent fits es slot (take k numbers) obstacle
 
 -- whether the stamp of slot i, from 1, counts so many events of the thread

@@ -15,7 +15,7 @@ ghost use Rattle.trace.proofs.Counts.{Lowest};
 ghost use Rattle.passes.specs.Passes.{Leads};
 ghost use Rattle.slot_search.specs.Patterns.{Usable};
 ghost use Rattle.run.specs.Answers.{judgedIs};
-ghost use Rattle.verdict_reason.specs.Reasons.{causeIs, ReasonOf, ReasonOn};
+ghost use Rattle.verdict_reason.specs.Reasons.{ReasonOf, ReasonOn};
 ghost use Rattle.verdict_reason.specs.Causes.{Stopped, Causes, countsAt};
 
 // What keeps a log from a match.
@@ -43,7 +43,7 @@ pub struct Reasoned {
 
 // Judges a whole log by a pattern, and says why where there is no match.
 pub fn reason(pattern: &[u8], log: &[u8]) -> Reasoned
-    ensures { λ r. ⌜ ReasonOf (now (pattern .entry)) (now (log .entry)) (judgedIs (r .judged)) (causeIs (r .cause)) (r .events) ⌝ }
+    ensures { λ r. ⌜ ReasonOf (now (pattern .entry)) (now (log .entry)) (judgedIs (r .judged)) (r .cause) (r .events) ⌝ }
 {
     let read = log::read_pattern(pattern);
     let answer = read.answer;
@@ -58,7 +58,7 @@ pub fn reason(pattern: &[u8], log: &[u8]) -> Reasoned
 
 fn reason_on(p: Pattern, log: &[u8]) -> Reasoned
     requires { ⌜ Usable p ⌝ }
-    ensures { λ r. ⌜ ReasonOn (take (p .size) (p .slots)) (now (log .entry)) (judgedIs (r .judged)) (causeIs (r .cause)) (r .events) ⌝ }
+    ensures { λ r. ⌜ ReasonOn (take (p .size) (p .slots)) (now (log .entry)) (judgedIs (r .judged)) (r .cause) (r .events) ⌝ }
 {
     let slots = p.slots;
     let size = p.size;
@@ -102,7 +102,7 @@ fn decided(judged: Judged) -> Reasoned
 // the slots before it.
 fn cause_of(log: &[u8], n: usize, slot: Slot, k: usize, numbers: [u16; event::SLOTS]) -> Cause
     requires { ⌜ k < slotLimit ⌝ }
-    ensures { λ r. ⌜ ((es : List Event) → Leads (now (log .entry)) es n → Stopped es slot k numbers → Causes es slot k numbers (causeIs r)) ⌝ }
+    ensures { λ r. ⌜ ((es : List Event) → Leads (now (log .entry)) es n → Stopped es slot k numbers → Causes es slot k numbers r) ⌝ }
 {
     let last = last_fit::last_fit(log, n, slot);
     if last.number == 0 {

@@ -1,0 +1,3 @@
+-- What the program `reason` prints.
+pub mod ReasonText
+pub mod CauseText
