@@ -1,5 +1,5 @@
-// Files by their names, for the programs: a folder's two files read and listed, an order query of its log, a text printed, a file written whole, a replay and a
-// load saved.
+// Files by their names, for the programs: a folder's two files read and listed, or why they have no match; an order query of its log; a text printed; a file
+// written whole; a replay and a load saved.
 // What the system reads and writes is assumed and not proved.
 use arguments::Pair;
 use load_text::Made;
@@ -11,8 +11,10 @@ ghost use mathlib.Core.Bool.{false};
 ghost use lib.ListN.{length};
 ghost use lib.IntN.{pos};
 ghost use Rattle.io.specs.Counts.{Counts};
+ghost use Rattle.listing_text.specs.Listing.{Listing};
+ghost use Rattle.reason_text.specs.ReasonText.{ReasonText};
 ghost use Rattle.load_text.specs.LoadText.{LogWithin};
-ghost use Rattle.files.specs.Listed.{SomeListing, SomeOrder, InPage};
+ghost use Rattle.files.specs.Listed.{SomeText, SomeOrder, InPage};
 ghost use Rattle.files.specs.Paths.{Appended, SpareName};
 
 // How many bytes of a folder's two files were read.
@@ -23,7 +25,7 @@ pub struct Sizes {
 
 // Writes the listing of a folder's pattern.bin and log.bin at the start of a lent buffer.
 pub fn list(folder: &[u8], buffer: &mut [u8]) -> Written
-    ensures { λ r. ⌜ SomeListing (now (buffer .entry)) (now (buffer .exit)) r ⌝ }
+    ensures { λ r. ⌜ SomeText Listing (now (buffer .entry)) (now (buffer .exit)) r ⌝ }
 {
     let mut pattern = [0u8; page::SPACE];
     let mut log = [0u8; page::SPACE];
@@ -31,6 +33,18 @@ pub fn list(folder: &[u8], buffer: &mut [u8]) -> Written
     let p = sizes.pattern;
     let l = sizes.log;
     listing_text::write(&pattern[..p], &log[..l], buffer)
+}
+
+// Writes what the program `reason` prints for a folder's pattern.bin and log.bin at the start of a lent buffer.
+pub fn reason(folder: &[u8], buffer: &mut [u8]) -> Written
+    ensures { λ r. ⌜ SomeText ReasonText (now (buffer .entry)) (now (buffer .exit)) r ⌝ }
+{
+    let mut pattern = [0u8; page::SPACE];
+    let mut log = [0u8; page::SPACE];
+    let sizes = read_both(folder, &mut pattern, &mut log);
+    let p = sizes.pattern;
+    let l = sizes.log;
+    reason_text::write(&pattern[..p], &log[..l], buffer)
 }
 
 // Writes what the program `order` prints for a folder's log.bin and its arguments at the start of a lent buffer. Without two numbers no file is read.

@@ -13,5 +13,5 @@ main-spec =
     (λ c κs. search needs)
     (λ c. search needs)
     (λ c. search needs)
-    (λ c κs. in-page (c .before .before .before .list .ensures .listed))
+    (λ c κs. in-page (c .before .before .before .list .ensures .put))
     (λ c. search needs))
