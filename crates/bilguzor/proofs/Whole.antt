@@ -1,8 +1,8 @@
 -- Demand 3 for the exported functions: every list of events in numbers, every order reached from the events taken, and every run. What an event that fits
--- no slot leaves as it was, and what every replay shows.
-use Prim.Native.Nat.{ℕ, _≤_}
+-- no slot leaves as it was, what every reason says, and what every replay shows.
+use Prim.Native.Nat.{ℕ, suc, _≤_}
 use native.Mathlib.Omega.{arith}
-use mathlib.Core.Path.{_≡_, refl, sym, ap, ap₂, _∙_}
+use mathlib.Core.Path.{_≡_, refl, sym, ap, ap₂, subst, _∙_}
 use mathlib.Core.Logic.{_↔_}
 use mathlib.Core.Bool.{Bool, false}
 use mathlib.Core.List.{List, [], _∷_, _++_, reverse, map, append-assoc, append-nil, reverse-cons, reverse-append, reverse-reverse}
@@ -13,29 +13,41 @@ use Rattle.event.specs.declared.Operation.{Operation}
 use Rattle.event.specs.declared.Operation.the-variants.{Read, Write, Acquire, Release, Fork, Join, Mark}
 use Rattle.event.specs.declared.Event.{Event}
 use Rattle.event.specs.declared.Slot.{Slot}
-use Rattle.event.specs.Slots.{byteOf, objectOf, withoutHeight}
+use Rattle.event.specs.Limits.{slots as slotLimit}
+use Rattle.event.specs.Places.{inPlaces}
+use Rattle.event.specs.Slots.{byteOf, objectOf, withoutHeight, fits}
 use Rattle.event.proofs.Tests.{by-test}
 use Rattle.rules.specs.Accepted.{refusalAfter, takenUnder, AcceptedAfter, one-more, Accepted}
 use Rattle.command.specs.Bytes.{Bytes}
 use Rattle.command.specs.Reading.{operationOf}
-use Rattle.session.specs.Answers.{Refused, nothing, Given}
+use Rattle.session.specs.Answers.{refusal, Ruling, noRuling, Refused, nothing, Given}
 use Rattle.session.specs.History as session
 use Rattle.session.proofs.Demand.{same-verdict, run-over, every-run as run-demand}
-use Rattle.dependence.specs.Order.{HasMatch}
+use Rattle.trace.specs.Match.{IsCount}
+use Rattle.trace.specs.Reason.{Obstacle}
+use Rattle.trace.proofs.Counts.{count-unique}
+use Rattle.dependence.specs.Dependence.{dependent}
+use Rattle.dependence.specs.Order.{HasMatch, Reason}
 use Rattle.dependence.proofs.Reached.{order-reached}
-use Rattle.log.specs.Whole.{logBytes, readPattern}
+use Rattle.log.specs.Whole.{logBytes, accepted, readLog, readPattern}
+use Rattle.log.proofs.Rows.{refused-not-accepted, one-list}
 use Rattle.log.proofs.LogRoundTrip.{log-read}
 use Rattle.session.specs.Model.{slotsUsed}
+use Rattle.session.specs.Meaning.{VerdictOf, RunOnUnder, RunOn, RunOfUnder, RunOf}
 use Rattle.session.specs.NoFit.{FitsNone}
+use Rattle.verdict_reason.specs.declared.Cause.{Cause}
+use Rattle.verdict_reason.specs.Reasons.{causeIs, causeOf, log-refused, match, no-match, ReasonOf, pattern-refused, over-log}
+use Rattle.verdict_reason.proofs.EveryReason.{says-run, one-cause, reason-suffices}
 use Rattle.replay_log.specs.Replay.{ReplayOf, refused, too-short, none, shown}
 use Rattle.replay_log.proofs.Showing.{verdict-shows}
 use Rattle.event_numbers.specs.EventNumbers.{Numbers, noOperation, eventFrom}
 use Rattle.bilguzor.specs.declared.Judgement.{Judgement}
 use Rattle.bilguzor.specs.declared.Parts.{Parts}
+use Rattle.bilguzor.specs.declared.Reasoned.{Reasoned}
 use Rattle.bilguzor.specs.declared.Replayed.{Replayed}
-use Rattle.bilguzor.specs.Numbers.{kindOf, RunNumbers, ReplayNumbers}
+use Rattle.bilguzor.specs.Numbers.{kindOf, judgementOf, RunNumbers, reasonedOf, ReasonNumbers, ReplayNumbers}
 use Rattle.bilguzor.specs.Sessions.{InParts, openedParts, numberIn, partsAfter, refusalOf, takenWith, saidIn}
-use Rattle.bilguzor.specs.History.{partsAll, answersAll, takenAll, refusalsAll, heightIn, inNumbers, SameAnswer, EveryHistory, EveryRun, EveryUnmoved, EveryReplay}
+use Rattle.bilguzor.specs.History.{partsAll, answersAll, takenAll, refusalsAll, heightIn, inNumbers, SameAnswer, EveryHistory, EveryRun, EveryUnmoved, EveryReason, EveryReplay}
 use Rattle.bilguzor.proofs.Handing.{one-event, unmoved-parts, opened-in, said}
 
 -- ---- every list of events
@@ -185,6 +197,74 @@ every-run pattern log b r h l =
 
     one : session.EveryRun pattern log (h .given)
     one = run-demand pattern log b (h .given) (h .run) free
+
+-- ---- every reason
+
+-- what a run gives of a log without a match
+abbrev noMatch : Given
+noMatch = record { refused = nothing; refusal = refusal 0 0; ruling = noRuling }
+
+no-ruling : {ss : List Slot} {es : List Event} {r : Ruling} → VerdictOf ss es r → ¬ HasMatch ss es → r ≡ noRuling
+no-ruling {r = r} v d =
+    let m : r .matches ≡ false = by-test (r .matches) (λ t. absurd (d (v .matches .0 t))) (λ t. t) in
+    let n : r .count ≡ 0 = count-unique dependent fits (v .count) (IsCount.without d) in
+    λ i. record { matches = m i; count = n i; events = v .without d i }
+
+run-none : {ss : List Slot} {log : List ℕ} {es : List Event} {g : Given} → readLog log ≡ accepted es → ¬ HasMatch ss es → RunOn ss log g → g ≡ noMatch
+run-none q d (RunOnUnder.log-refused b) = refused-not-accepted (sym b ∙ q)
+run-none q d (RunOnUnder.judged b v f) =
+    ap (λ (x : Ruling). record { refused = nothing; refusal = refusal 0 0; ruling = x }) (no-ruling (rw (one-list (sym b ∙ q)) at v) d)
+
+-- where the log's events have no match, the call's verdict is that
+verdict-none : {pattern log : List ℕ} {ss : List Slot} {es : List Event} {g : Given} → readPattern pattern ≡ accepted ss → readLog log ≡ accepted es
+    → ¬ HasMatch ss es → RunOf pattern log g → g ≡ noMatch
+verdict-none p q d (RunOfUnder.pattern-refused b) = refused-not-accepted (sym b ∙ p)
+verdict-none {log = log} {g = g} p q d (RunOfUnder.over-log b r) = run-none q d (subst (λ (xs : List Slot). RunOn xs log g) (one-list (sym b ∙ p)) r)
+
+module _ (pattern log : List ℕ) (r : Reasoned) (h : ReasonNumbers pattern log r) where
+  with-reason : {ss : List Slot} {es : List Event} {first : List ℕ} {o : Obstacle} → readPattern pattern ≡ accepted ss → readLog log ≡ accepted es
+      → Reason ss es first o → h .cause ≡ causeOf (suc (length first)) o → h .events ≡ inPlaces 0 slotLimit first → EveryReason pattern log r
+  with-reason {ss} {es} {first} {o} p q why cause places =
+      record {
+        slots = ss;
+        events = es;
+        slots-are = p;
+        reads = q;
+        first = first;
+        obstacle = o;
+        why = why;
+        numbers = numbers;
+        without = reason-suffices why;
+        only = λ s k. only s k;
+      }
+    where
+      numbers : r ≡ reasonedOf (r .judgement) (causeIs (causeOf (suc (length first)) o)) (inPlaces 0 slotLimit first)
+      numbers =
+          h .numbers
+          ∙ (λ i. reasonedOf (ap (λ (x : Reasoned). x .judgement) (sym (h .numbers)) i) (causeIs (cause i)) (places i))
+
+      given-none : (s : Reasoned) (k : ReasonNumbers pattern log s) → k .given ≡ noMatch
+      given-none s k = verdict-none p q (reason-suffices why) (says-run (k .reason))
+
+      only : (s : Reasoned) → ReasonNumbers pattern log s → s ≡ r
+      only s k =
+          let one = one-cause (k .reason) (h .reason) in
+          let g = given-none s k ∙ sym (given-none r h) in
+          k .numbers ∙ (λ i. reasonedOf (judgementOf (g i)) (causeIs (one .0 i)) (one .1 i)) ∙ sym (h .numbers)
+
+-- where the call for a reason says no match, it gives the one that the log's events have
+pub every-reason : (pattern log : List ℕ) (r : Reasoned) → ReasonNumbers pattern log r → r .judgement .kind ≡ 0 → EveryReason pattern log r
+every-reason pattern log r h is = go (h .reason) refl refl (sym (ap (λ (x : Reasoned). x .judgement .kind) (h .numbers)) ∙ is)
+  where
+    go : {g : Given} {c : Cause} {events : List ℕ} → ReasonOf pattern log g c events → h .cause ≡ c → h .events ≡ events
+        → kindOf (g .refused) (g .ruling .matches) ≡ 0 → EveryReason pattern log r
+    go (pattern-refused p) e f k = absurd (let f : ⊥ = omega arith in f)
+    go {g} (over-log p (log-refused run d)) e f k = absurd (d (low-kind (g .refused) (g .ruling .matches) (omega arith)))
+    go {g} (over-log p (match run m)) e f k =
+        let free = low-kind (g .refused) (g .ruling .matches) (omega arith) in
+        let z = rw (free, m) at k in
+        absurd (let f : ⊥ = omega arith in f)
+    go (over-log p (no-match run q why)) e f k = with-reason pattern log r h p q why e f
 
 -- ---- every replay
 

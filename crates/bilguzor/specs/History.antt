@@ -1,6 +1,6 @@
 -- Demand 3 for sessions in parts and for exported runs: what is so for every list of events in numbers, the whole list and not each call.
--- Beside it, what an event that fits no slot leaves as it was, and what every exported replay shows.
-use Prim.Native.Nat.{ℕ}
+-- Beside it, what an event that fits no slot leaves as it was, what every exported reason says, and what every exported replay shows.
+use Prim.Native.Nat.{ℕ, suc}
 use mathlib.Core.Path.{_≡_}
 use mathlib.Core.List.{List, [], _∷_, _++_, reverse, map}
 use lib.IntN.{ℤ, pos}
@@ -9,18 +9,23 @@ use Rattle.event.specs.declared.Operation.{Operation}
 use Rattle.event.specs.declared.Operation.the-variants.{Read, Write, Acquire, Release, Fork, Join, Mark}
 use Rattle.event.specs.declared.Event.{Event}
 use Rattle.event.specs.declared.Slot.{Slot}
+use Rattle.event.specs.Limits.{slots as slotLimit}
+use Rattle.event.specs.Places.{inPlaces}
 use Rattle.event.specs.Slots.{byteOf, objectOf, withoutHeight}
 use Rattle.rules.specs.Accepted.{Accepted}
 use Rattle.log.specs.Whole.{Heights, accepted, logBytes, readLog, readPattern}
-use Rattle.dependence.specs.Order.{Reaches}
+use Rattle.trace.specs.Reason.{Obstacle}
+use Rattle.dependence.specs.Order.{Reaches, HasMatch, Reason}
 use Rattle.session.specs.Answers.{nothing}
 use Rattle.session.specs.Model.{slotsUsed}
 use Rattle.session.specs.Meaning.{VerdictOf}
+use Rattle.verdict_reason.specs.Reasons.{causeIs, causeOf}
 use Rattle.replay_log.specs.Shows.{Shows}
 use Rattle.event_numbers.specs.EventNumbers.{Numbers, handedOver, eventFrom}
 use Rattle.bilguzor.specs.declared.Judgement.{Judgement}
 use Rattle.bilguzor.specs.declared.Parts.{Parts}
-use Rattle.bilguzor.specs.Numbers.{kindOf, RunNumbers}
+use Rattle.bilguzor.specs.declared.Reasoned.{Reasoned}
+use Rattle.bilguzor.specs.Numbers.{kindOf, RunNumbers, reasonedOf, ReasonNumbers}
 use Rattle.bilguzor.specs.Sessions.{InParts, openedParts, numberIn, partsAfter, refusalOf, takenWith, saidIn}
 
 -- the parts, and the number that each event gets, handed over one after another
@@ -86,6 +91,20 @@ pub record EveryUnmoved (bytes : List ℕ) (numbers : List Numbers) (n : Numbers
   pub verdict-stays : saidIn (partsAll (openedParts bytes) (numbers ++ (n ∷ []))) ≡ saidIn (partsAll (openedParts bytes) numbers)
   pub partial-matches-stay : partsAll (openedParts bytes) (numbers ++ (n ∷ [])) .table ≡ partsAll (openedParts bytes) numbers .table
   pub taken-too : InParts (slotsUsed (readPattern bytes)) (takenAll [] numbers ++ (eventFrom n ∷ [])) (partsAll (openedParts bytes) (numbers ++ (n ∷ [])))
+
+-- what is so where the call for a reason says no match: the log's events have the reason with these numbers, and so no match; and its contract allows no
+-- other answer
+pub record EveryReason (pattern log : List ℕ) (r : Reasoned) : Type 0 where
+  pub slots : List Slot
+  pub events : List Event
+  pub slots-are : readPattern pattern ≡ accepted slots
+  pub reads : readLog log ≡ accepted events
+  pub first : List ℕ
+  pub obstacle : Obstacle
+  pub why : Reason slots events first obstacle
+  pub numbers : r ≡ reasonedOf (r .judgement) (causeIs (causeOf (suc (length first)) obstacle)) (inPlaces 0 slotLimit first)
+  pub without : ¬ HasMatch slots events
+  pub only : (s : Reasoned) → ReasonNumbers pattern log s → s ≡ r
 
 -- what is so where a replay says match and gives the length n: the first n bytes of the buffer afterwards are a log that shows the pattern, and a run
 -- over them with the same pattern says match

@@ -1,4 +1,4 @@
--- The numbers that a run, a replay and an order query answer.
+-- The numbers that a run, a reason, a replay and an order query answer.
 use Prim.Native.Nat.{ℕ}
 use mathlib.Core.Path.{_≡_}
 use mathlib.Core.Bool.{Bool, cond}
@@ -9,11 +9,14 @@ use Rattle.session.specs.declared.Found.{Found}
 use Rattle.session.specs.declared.Found.the-variants as found
 use Rattle.run.specs.declared.Outcome.{Outcome}
 use Rattle.run.specs.declared.Outcome.the-variants as outcome
+use Rattle.verdict_reason.specs.declared.Cause.{Cause}
+use Rattle.verdict_reason.specs.Reasons.{Stated, causeIs, ReasonOf}
 use Rattle.replay_log.specs.Replay.{ReplayOf}
 use Rattle.relation.specs.declared.Relation.{Relation}
 use Rattle.relation.specs.declared.Relation.the-variants.{Same, Before, After, Free}
 use Rattle.order_query.specs.Query.{OrderAnswer, related, log-refused, query-refused, Answers}
 use Rattle.bilguzor.specs.declared.Judgement.{Judgement}
+use Rattle.bilguzor.specs.declared.Reasoned.{Reasoned}
 use Rattle.bilguzor.specs.declared.Replayed.{Replayed}
 use Rattle.bilguzor.specs.declared.Ordering.{Ordering}
 
@@ -48,6 +51,20 @@ pub record RunNumbers (pattern log : List ℕ) (r : Judgement) : Type 0 where
   pub given : Given
   pub run : RunOf pattern log given
   pub numbers : r ≡ judgementOf given
+
+-- a reason's numbers
+abbrev pub reasonedOf : Judgement → Stated → List ℕ → Reasoned
+reasonedOf j t events = record { judgement = j; slot = t .slot; last = t .last; earlier = t .earlier; events = events }
+
+-- "Where there is no match: the number k of the first slot that can't be filled, the first events for slots 1 to k-1 .., and one of two cases: no event of
+-- the log fits slot k; or the number of the LAST event that fits slot k and the lowest slot i below k whose event it comes before or is.": what the call
+-- gives, in numbers
+pub record ReasonNumbers (pattern log : List ℕ) (r : Reasoned) : Type 0 where
+  pub given : Given
+  pub cause : Cause
+  pub events : List ℕ
+  pub reason : ReasonOf pattern log given cause events
+  pub numbers : r ≡ reasonedOf (judgementOf given) (causeIs cause) events
 
 -- "On a match, write into a lent buffer a whole log holding the same events in an order that shows the pattern.": what the call gives, in numbers, the
 -- length given, and the buffer afterwards
