@@ -121,6 +121,15 @@ typedef struct bilguzor_judgement {
     size_t offset; /* of the refusal; 0 without one */
 } bilguzor_judgement;
 
+/* What a run has found, and why there is no match. 72 bytes. */
+typedef struct bilguzor_reasoned {
+    bilguzor_judgement judgement; /* what bilguzor_run gives */
+    size_t slot; /* without a match, the first slot that can't be filled, counted from 1; 0 with a match and for a refusal */
+    size_t last; /* the number of the last event that fits that slot, counted from 1; 0 where no event of the log fits it, with a match and for a refusal */
+    size_t earlier; /* the lowest slot below that one whose event the last one comes before or is; 0 where `last` is */
+    uint16_t events[BILGUZOR_SLOTS]; /* without a match, the first events for the slots below `slot`; 0 from there on, with a match and for a refusal */
+} bilguzor_reasoned;
+
 /* What a replay has found and written. 40 bytes. */
 typedef struct bilguzor_replayed {
     bilguzor_judgement judgement; /* what bilguzor_run gives; or BILGUZOR_LOG_REFUSED with 15 */
@@ -195,6 +204,19 @@ typedef struct bilguzor_opening {
 /* Judges a whole log by a pattern. A refused pattern answers BILGUZOR_PATTERN_REFUSED (1 to 8), and the log is not looked at; a refusal anywhere
  * in the log answers BILGUZOR_LOG_REFUSED (3 to 14, or 17), also after a match. */
 bilguzor_judgement bilguzor_run(const uint8_t *pattern, size_t pattern_size, const uint8_t *log, size_t log_size);
+
+/* Judges a whole log by a pattern, as bilguzor_run does, and says why where there is no match. The first slots of the pattern, as many as can be filled,
+ * get their first events: each fits its slot, none comes before the event of an earlier slot or is it, and no list of events that is so has a smaller
+ * number in any slot. The next slot then can't be filled, for one of two reasons:
+ *
+ *   no event fits it: `last` and `earlier` are 0; or
+ *   the last event that fits it comes before the event of slot `earlier`, or is it, and so does every other that fits; bilguzor_order says the same
+ *   of `last` and events[earlier - 1].
+ *
+ * Such a reason is enough: where there is one, no order of the log holds the pattern. A log without a match has exactly one.
+ *
+ * What bilguzor_run refuses is refused alike. With a match, and for every refusal, all beside the judgement is 0. */
+bilguzor_reasoned bilguzor_reason(const uint8_t *pattern, size_t pattern_size, const uint8_t *log, size_t log_size);
 
 /* Judges a whole log by a pattern, as bilguzor_run does. With a match it writes at the start of the buffer a log that shows it: the same events,
  * first all that come before the event of slot 1 or are it, then those not yet written that do so for slot 2, and so on, then the rest, each group in
@@ -294,6 +316,7 @@ static inline bilguzor_judgement bilguzor_session_verdict(const bilguzor_session
 #endif
 
 BILGUZOR_ASSERT_SIZE(bilguzor_judgement, 32);
+BILGUZOR_ASSERT_SIZE(bilguzor_reasoned, 72);
 BILGUZOR_ASSERT_SIZE(bilguzor_replayed, 40);
 BILGUZOR_ASSERT_SIZE(bilguzor_ordering, 16);
 BILGUZOR_ASSERT_SIZE(bilguzor_answer, 16);

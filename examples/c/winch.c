@@ -1,5 +1,5 @@
-/* A session that is handed its events one by one, rows of sessions, runs over whole logs, a replay, order queries, loads, and all orders of short logs,
- * through libbilguzor.a and the three libraries beside it. */
+/* A session that is handed its events one by one, rows of sessions, runs over whole logs, reasons, a replay, order queries, loads, and all orders of short
+ * logs, through libbilguzor.a and the three libraries beside it. */
 #include <stdio.h>
 #include <string.h>
 
@@ -19,6 +19,16 @@ static void print_judgement(const char *what, bilguzor_judgement j)
         const char *whose = j.kind == BILGUZOR_PATTERN_REFUSED ? "pattern" : "log";
         printf("%s: %s refused %u at %zu\n", what, whose, j.number, j.offset);
     }
+}
+
+static void print_reason(const char *what, bilguzor_reasoned r)
+{
+    print_judgement(what, r.judgement);
+    printf("%s: slot %zu, last event %zu, earlier slot %zu, events", what, r.slot, r.last, r.earlier);
+    for (int i = 0; i < BILGUZOR_SLOTS; i++) {
+        printf(" %u", r.events[i]);
+    }
+    printf("\n");
 }
 
 static void print_ordering(const char *what, bilguzor_ordering o)
@@ -159,14 +169,29 @@ static const uint8_t held_log[] = { 3, 0, 2, 3, 1, 2, 0 };
 /* thread 0 writes variable 0, thread 1 mark 11 */
 static const uint8_t sign[] = { 2, 0, 0, 7, 1, 11, 0, 0 };
 
+static const uint8_t other[] = { 7, 1, 12, 0, 0 };
+static const uint8_t open_ended[] = { 7, 1, 12, 0 };
+
 static void runs(void)
 {
-    static const uint8_t other[] = { 7, 1, 12, 0, 0 };
-    static const uint8_t open_ended[] = { 7, 1, 12, 0 };
     print_judgement("run", bilguzor_run(sign, sizeof sign, sign_log, sizeof sign_log));
     print_judgement("run", bilguzor_run(other, sizeof other, sign_log, sizeof sign_log));
     print_judgement("run", bilguzor_run(other, sizeof other, held_log, sizeof held_log));
     print_judgement("run", bilguzor_run(open_ended, sizeof open_ended, held_log, sizeof held_log));
+}
+
+static void reasons(void)
+{
+    /* thread 1 acquires lock 3, marks 10 and 11 and releases it; thread 0 acquires it, writes variable 0 and releases it */
+    static const uint8_t panel_log[] = { 3, 1, 3, 7, 1, 10, 0, 7, 1, 11, 0, 4, 1, 3, 3, 0, 3, 2, 0, 0, 0x70, 0xFE, 0xFF, 0xFF, 4, 0, 3, 0 };
+    /* thread 1 mark 10, thread 0 writes variable 0, thread 1 mark 11 */
+    static const uint8_t panel[] = { 7, 1, 10, 0, 2, 0, 0, 7, 1, 11, 0, 0 };
+    print_reason("panel with the lock", bilguzor_reason(panel, sizeof panel, panel_log, sizeof panel_log));
+    print_ordering("3 and 6", bilguzor_order(panel_log, sizeof panel_log, 3, 6));
+    print_reason("no such event", bilguzor_reason(other, sizeof other, sign_log, sizeof sign_log));
+    print_reason("a match", bilguzor_reason(sign, sizeof sign, sign_log, sizeof sign_log));
+    print_reason("held lock", bilguzor_reason(other, sizeof other, held_log, sizeof held_log));
+    print_reason("open end", bilguzor_reason(open_ended, sizeof open_ended, held_log, sizeof held_log));
 }
 
 static void replays(void)
@@ -291,6 +316,7 @@ int main(void)
     locks();
     rows();
     runs();
+    reasons();
     replays();
     orders();
     loads();

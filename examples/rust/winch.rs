@@ -1,5 +1,5 @@
-// A session that is handed its events one by one, rows of sessions, runs over whole logs, a replay, order queries, loads, and all orders of short logs,
-// through libbilguzor.a and the three libraries beside it.
+// A session that is handed its events one by one, rows of sessions, runs over whole logs, reasons, a replay, order queries, loads, and all orders of short
+// logs, through libbilguzor.a and the three libraries beside it.
 // `bilguzor.h` says what each function answers; the declarations below are the same.
 #[repr(C)]
 struct Judgement {
@@ -8,6 +8,15 @@ struct Judgement {
     events: [u16; 5],
     count: usize,
     offset: usize,
+}
+
+#[repr(C)]
+struct Reasoned {
+    judgement: Judgement,
+    slot: usize,
+    last: usize,
+    earlier: usize,
+    events: [u16; 5],
 }
 
 #[repr(C)]
@@ -95,6 +104,7 @@ struct Opening {
 
 // The sizes that the library was compiled with.
 const _: () = assert!(std::mem::size_of::<Judgement>() == 32);
+const _: () = assert!(std::mem::size_of::<Reasoned>() == 72);
 const _: () = assert!(std::mem::size_of::<Replayed>() == 40);
 const _: () = assert!(std::mem::size_of::<Ordering>() == 16);
 const _: () = assert!(std::mem::size_of::<Answer>() == 16);
@@ -107,6 +117,7 @@ const _: () = assert!(std::mem::size_of::<Opening>() == 4200);
 
 extern "C" {
     fn bilguzor_run(pattern: *const u8, pattern_size: usize, log: *const u8, log_size: usize) -> Judgement;
+    fn bilguzor_reason(pattern: *const u8, pattern_size: usize, log: *const u8, log_size: usize) -> Reasoned;
     fn bilguzor_replay(
         pattern: *const u8,
         pattern_size: usize,
@@ -169,6 +180,10 @@ fn run(pattern: &[u8], log: &[u8]) -> Judgement {
     unsafe { bilguzor_run(pattern.as_ptr(), pattern.len(), log.as_ptr(), log.len()) }
 }
 
+fn reason(pattern: &[u8], log: &[u8]) -> Reasoned {
+    unsafe { bilguzor_reason(pattern.as_ptr(), pattern.len(), log.as_ptr(), log.len()) }
+}
+
 fn replay(pattern: &[u8], log: &[u8], buffer: &mut [u8]) -> Replayed {
     unsafe { bilguzor_replay(pattern.as_ptr(), pattern.len(), log.as_ptr(), log.len(), buffer.as_mut_ptr(), buffer.len()) }
 }
@@ -221,18 +236,24 @@ impl Session {
     }
 }
 
+fn words(events: [u16; 5]) -> String {
+    events.map(|e| e.to_string()).join(" ")
+}
+
 fn print_judgement(what: &str, j: &Judgement) {
     match j.kind {
-        YES => {
-            let events: Vec<String> = j.events.iter().map(|e| e.to_string()).collect();
-            println!("{what}: match at {}, events {}", j.count, events.join(" "));
-        }
+        YES => println!("{what}: match at {}, events {}", j.count, words(j.events)),
         NO => println!("{what}: no match"),
         kind => {
             let whose = if kind == PATTERN_REFUSED { "pattern" } else { "log" };
             println!("{what}: {whose} refused {} at {}", j.number, j.offset);
         }
     }
+}
+
+fn print_reason(what: &str, r: &Reasoned) {
+    print_judgement(what, &r.judgement);
+    println!("{what}: slot {}, last event {}, earlier slot {}, events {}", r.slot, r.last, r.earlier, words(r.events));
 }
 
 fn print_ordering(what: &str, o: &Ordering) {
@@ -361,13 +382,27 @@ const HELD_LOG: [u8; 7] = [3, 0, 2, 3, 1, 2, 0];
 // thread 0 writes variable 0, thread 1 mark 11
 const SIGN: [u8; 8] = [2, 0, 0, 7, 1, 11, 0, 0];
 
+const OTHER: [u8; 5] = [7, 1, 12, 0, 0];
+const OPEN_ENDED: [u8; 4] = [7, 1, 12, 0];
+
 fn runs() {
-    let other = [7, 1, 12, 0, 0];
-    let open_ended = [7, 1, 12, 0];
     print_judgement("run", &run(&SIGN, &SIGN_LOG));
-    print_judgement("run", &run(&other, &SIGN_LOG));
-    print_judgement("run", &run(&other, &HELD_LOG));
-    print_judgement("run", &run(&open_ended, &HELD_LOG));
+    print_judgement("run", &run(&OTHER, &SIGN_LOG));
+    print_judgement("run", &run(&OTHER, &HELD_LOG));
+    print_judgement("run", &run(&OPEN_ENDED, &HELD_LOG));
+}
+
+fn reasons() {
+    // thread 1 acquires lock 3, marks 10 and 11 and releases it; thread 0 acquires it, writes variable 0 and releases it
+    let panel_log = [3, 1, 3, 7, 1, 10, 0, 7, 1, 11, 0, 4, 1, 3, 3, 0, 3, 2, 0, 0, 0x70, 0xFE, 0xFF, 0xFF, 4, 0, 3, 0];
+    // thread 1 mark 10, thread 0 writes variable 0, thread 1 mark 11
+    let panel = [7, 1, 10, 0, 2, 0, 0, 7, 1, 11, 0, 0];
+    print_reason("panel with the lock", &reason(&panel, &panel_log));
+    print_ordering("3 and 6", &order(&panel_log, 3, 6));
+    print_reason("no such event", &reason(&OTHER, &SIGN_LOG));
+    print_reason("a match", &reason(&SIGN, &SIGN_LOG));
+    print_reason("held lock", &reason(&OTHER, &HELD_LOG));
+    print_reason("open end", &reason(&OPEN_ENDED, &HELD_LOG));
 }
 
 fn replays() {
@@ -480,6 +515,7 @@ fn main() {
     locks();
     rows();
     runs();
+    reasons();
     replays();
     orders();
     loads();
