@@ -4,7 +4,7 @@ use crate::ffi::{self, OrderRow, RowReport, Session, ROW};
 use crate::greedy;
 use crate::load::{self, Bytes, Steps};
 use crate::reference::{self, Event, Label, Past};
-use crate::verdict::{found, Judged, Outcome, Refusal, Relation, EVENTS, PLACES, SLOTS, THREADS};
+use crate::verdict::{found, Judged, Outcome, Reason, Refusal, Relation, EVENTS, PLACES, SLOTS, THREADS};
 
 /// How many inputs of each kind.
 const SHORT: usize = 16000;
@@ -29,11 +29,22 @@ struct Totals {
     handed: usize,
     verdicts: usize,
     queries: usize,
+    reasons: Reasons,
     replays: usize,
     rows: usize,
     divided: usize,
     loads: usize,
     orders: Orders,
+}
+
+/// Logs without a match where no event fits the slot that can't be filled, and where the last one that does is too early; how many of both have each slot
+/// so; and the matches and refusals, which have no reason.
+#[derive(Default)]
+struct Reasons {
+    no_fit: usize,
+    too_early: usize,
+    at: [usize; SLOTS],
+    decided: usize,
 }
 
 /// Logs whose orders are gone through, those of them that fill all places, their orders, and the logs with an order that holds the pattern; lists that are
@@ -90,11 +101,19 @@ fn first(slots: &[Label], log: &[Label], before: &Before, count: usize) -> [u16;
         assert_eq!(first, reference::first_of_all_lists(slots, leading, before), "the search and all lists differ on {log:?}");
     }
     assert_eq!(first.is_some(), count > 0, "no list satisfies the rule within {count} of {log:?}");
-    let mut numbers = [0; SLOTS];
-    for (number, e) in numbers.iter_mut().zip(first.unwrap_or_default()) {
-        *number = e as u16 + 1;
+    reference::in_slots(&first.unwrap_or_default())
+}
+
+/// Why there is no match; for a short log the slots before the one that can't be filled, their events and that slot are held to all lists too.
+fn why(slots: &[Label], log: &[Label], before: &Before) -> Reason {
+    let reason = reference::reason(slots, log, before).expect("a log without a match has a slot that can't be filled");
+    if log.len() <= 6 {
+        let least = |size: usize| reference::least_of_all_lists(&slots[..size], log, before);
+        let events = least(reason.slot - 1).map(|list| reference::in_slots(&list));
+        assert_eq!(events, Some(reason.events), "the reason's events and all lists differ on {log:?}");
+        assert_eq!(least(reason.slot), None, "slot {} can be filled in {log:?}", reason.slot);
     }
-    numbers
+    reason
 }
 
 /// What document 01 asks of the events that a session names for the slots: any list that satisfies the rule within the count will do.
@@ -219,7 +238,23 @@ impl Totals {
             assert_eq!(got, wanted, "({name}): {pattern:02x?} {log:02x?}");
         }
         self.hold_order(log, &e);
+        self.hold_reason(pattern, log, &e);
         self.hold_replay(pattern, log, &e);
+    }
+
+    /// The reason: what the run says, with all its numbers where that is no match, and with none else.
+    fn hold_reason(&mut self, pattern: &[u8], log: &[u8], e: &Expected) {
+        let none = e.judged.outcome == Outcome::None;
+        let slots = reference::read_pattern(pattern).unwrap_or_default();
+        let wanted = if none { why(&slots, &e.log, &e.before) } else { Reason::default() };
+        assert_eq!(ffi::reason(pattern, log), (e.judged, wanted), "reason: {pattern:02x?} {log:02x?}");
+        let total = match (none, wanted.last) {
+            (false, _) => return self.reasons.decided += 1,
+            (_, 0) => &mut self.reasons.no_fit,
+            _ => &mut self.reasons.too_early,
+        };
+        *total += 1;
+        self.reasons.at[wanted.slot - 1] += 1;
     }
 
     /// The replay into a buffer with a byte more than the log, with as many, and with one fewer; what it does not write stays as it was.
@@ -690,11 +725,15 @@ pub fn all() {
     whole(&mut totals);
     loads(&mut totals, &mut steps);
     orders(&mut totals, &mut steps);
-    let Totals { inputs, matches, nones, refused, handed, verdicts, queries, replays, rows, divided, loads, orders } = totals;
+    let Totals { inputs, matches, nones, refused, handed, verdicts, queries, reasons, replays, rows, divided, loads, orders } = totals;
     let numbers: Vec<String> = (1..15).chain([17]).map(|k| format!("{k}: {}", refused[k])).collect();
     println!("Agreement: {inputs} inputs, (a) to (e) each as the independent implementation says: {matches} match, {nones} none,");
     println!("{} refused (by number, {}). (a) and (e) name the first list each time.", refused.iter().sum::<usize>(), numbers.join(", "));
     println!("Sessions: {handed} events handed over, {verdicts} verdicts looked at; {queries} order queries. {replays} replays, byte by byte.");
+    let Reasons { no_fit, too_early, at, decided } = reasons;
+    let slots: Vec<String> = at.iter().zip(1..).map(|(n, k)| format!("{k}: {n}")).collect();
+    println!("{} reasons, number by number: in {no_fit} no event fits the slot, in {too_early} the last that fits is too early", no_fit + too_early);
+    println!("(by slot, {}); and {decided} matches and refusals, with none.", slots.join(", "));
     println!("Rows of 0 to {} sessions: {rows} events, {divided} refused by some and taken by others; each as alone, byte by byte.", ROW + 1);
     println!("{loads} loads, each byte as the rule says, in buffers of three sizes.");
     let Orders { logs, full, given, shown, unreached, long, refused } = orders;

@@ -1,4 +1,4 @@
-// Times what stands beside the run alone: a replay and an order query, a row of sessions, making a load, and going through orders.
+// Times what stands beside the run alone: a reason, a replay and an order query, a row of sessions, making a load, and going through orders.
 use crate::contest;
 use crate::ffi::{self, Session};
 use crate::load::{self, Bytes, Input};
@@ -39,6 +39,25 @@ fn replays_and_queries() {
         let [run, replay, query] = least;
         let (load, slots, ending) = (input.load, input.slots, input.ending);
         println!("| {load} | {slots} | {ending} | {run:.1} | {replay:.1} | {:.2} | {query:.1} | {:.2} |", replay / run, query / run);
+    }
+}
+
+/// The least time of a run and of a reason in ns an event, the two in turns, as Markdown, on the inputs that never match. Where the last event that fits is
+/// too early, a pass more stamps the events of the slots before.
+fn reasons() {
+    println!("\n| load | slots | match | no event fits, or too early | run | reason | reason to run |\n|---|---|---|---|---|---|---|");
+    for input in load::inputs().iter().filter(|input| input.ending == "never") {
+        let (pattern, log) = (&input.pattern[..], &input.log[..]);
+        let case = if ffi::reason(pattern, log).1.last == 0 { "no event fits" } else { "too early" };
+        let mut least = [f64::MAX; 2];
+        for _ in 0..ROUNDS {
+            let run = per_event(input, || ffi::run(black_box(pattern), black_box(log)));
+            let reason = per_event(input, || ffi::reason(black_box(pattern), black_box(log)));
+            least = [least[0].min(run), least[1].min(reason)];
+        }
+        let [run, reason] = least;
+        let (load, slots, ending) = (input.load, input.slots, input.ending);
+        println!("| {load} | {slots} | {ending} | {case} | {run:.1} | {reason:.1} | {:.2} |", reason / run);
     }
 }
 
@@ -164,6 +183,7 @@ fn orders() {
 
 pub fn print() {
     replays_and_queries();
+    reasons();
     rows();
     loads();
     orders();

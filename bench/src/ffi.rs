@@ -1,5 +1,5 @@
 // The functions of the proved static library, declared as its C header has them, with one safe wrapper each.
-use crate::verdict::{found, Judged, Outcome, Refusal, Relation, EVENTS, LOCKS, PLACES, SLOTS, THREADS, VARIABLES};
+use crate::verdict::{found, Judged, Outcome, Reason, Refusal, Relation, EVENTS, LOCKS, PLACES, SLOTS, THREADS, VARIABLES};
 
 #[repr(C)]
 struct Judgement {
@@ -8,6 +8,15 @@ struct Judgement {
     events: [u16; SLOTS],
     count: usize,
     offset: usize,
+}
+
+#[repr(C)]
+struct Reasoned {
+    judgement: Judgement,
+    slot: usize,
+    last: usize,
+    earlier: usize,
+    events: [u16; SLOTS],
 }
 
 #[repr(C)]
@@ -129,9 +138,11 @@ struct Opening {
 const _: () = assert!(size_of::<Session>() == 4172 && size_of::<Opening>() == 4200);
 const _: () = assert!(size_of::<Event>() == 16 && size_of::<RowReport>() == 32);
 const _: () = assert!(size_of::<Load>() == 24 && size_of::<OrderRow>() == 24);
+const _: () = assert!(size_of::<Reasoned>() == 72);
 
 extern "C" {
     fn bilguzor_run(pattern: *const u8, pattern_size: usize, log: *const u8, log_size: usize) -> Judgement;
+    fn bilguzor_reason(pattern: *const u8, pattern_size: usize, log: *const u8, log_size: usize) -> Reasoned;
     fn bilguzor_replay(
         pattern: *const u8,
         pattern_size: usize,
@@ -176,6 +187,13 @@ fn judged(j: Judgement) -> Judged {
 pub fn run(pattern: &[u8], log: &[u8]) -> Judged {
     // Safe: both slices are lent for the call with their lengths, and the library only reads them.
     judged(unsafe { bilguzor_run(pattern.as_ptr(), pattern.len(), log.as_ptr(), log.len()) })
+}
+
+/// A run over a whole log and, without a match, why.
+pub fn reason(pattern: &[u8], log: &[u8]) -> (Judged, Reason) {
+    // Safe: both slices are lent for the call with their lengths, and the library only reads them.
+    let r = unsafe { bilguzor_reason(pattern.as_ptr(), pattern.len(), log.as_ptr(), log.len()) };
+    (judged(r.judgement), Reason { slot: r.slot, last: r.last, earlier: r.earlier, events: r.events })
 }
 
 /// A run over a whole log and, with a match, the log that shows it at the start of the buffer: how many bytes it has.

@@ -2,8 +2,8 @@
 // the same inputs in one process.
 //
 // With no word: agreement, the table, the goals, what is timed beside runs, the plot (to the file that BENCH_PLOT names, else growth.svg).
-// `agree`: agreement alone. `beside`: replays, order queries, rows of sessions, loads and orders beside runs alone. `once WHO LOAD SLOTS ENDING`: one
-// call, for a tool that counts instructions.
+// `agree`: agreement alone. `beside`: reasons, replays, order queries, rows of sessions, loads and orders beside runs alone. `once WHO LOAD SLOTS ENDING`:
+// one call, for a tool that counts instructions.
 mod agree;
 mod beside;
 mod clocks;

@@ -40,6 +40,16 @@ pub struct Judged {
     pub numbers: [u16; SLOTS],
 }
 
+/// Why there is no match: the first slot that can't be filled, the last event that fits it, the lowest slot before it whose event that one comes before or
+/// is, and the first events for the slots before it. All count from 1, and 0 stands where there is none.
+#[derive(Clone, Copy, PartialEq, Eq, Debug, Default)]
+pub struct Reason {
+    pub slot: usize,
+    pub last: usize,
+    pub earlier: usize,
+    pub events: [u16; SLOTS],
+}
+
 /// Match or none by the count, which is 0 without a match.
 pub fn found(count: usize) -> Outcome {
     if count == 0 {
