@@ -1,5 +1,6 @@
-// Lists each example folder that its arguments name, and says whether the text is the one in the folder's file `printed`; the same of folders with many
-// patterns; whether order queries of some of them print what they should; and whether a file that is saved, and a replay, are read again as they should be.
+// Lists each example folder that its arguments name, and says whether the text is the one in the folder's file `printed`, and with reasons the one in
+// `reasoned` where there is no match; the same of folders with many patterns; whether order queries of some of them print what they should; and whether a
+// file that is saved, and a replay, are read again as they should be.
 use arguments::Pair;
 use writer::Written;
 
@@ -115,14 +116,30 @@ fn order(folder: &[u8], pair: Pair, due: &[u8]) {
 fn example(n: usize) {
     let mut space = [0u8; NAMES];
     let size = os::arg(n, &mut space);
-    io::write_all(1, &space[..size]);
     listing(&space[..size]);
+    reason(&space[..size]);
 }
 
 fn listing(folder: &[u8]) {
     let mut page = [0u8; page::ROOM];
     let written = files::list(folder, &mut page);
+    io::write_all(1, folder);
     compare(folder, written, &page);
+}
+
+// Where the folder has a file `reasoned` that is what is printed, and else the listing.
+fn reason(folder: &[u8]) {
+    let mut page = [0u8; page::ROOM];
+    let mut due = [0u8; page::ROOM];
+    let written = files::reason(folder, &mut page);
+    let k = files::read(folder, b"/reasoned", &mut due);
+    io::write_all(1, folder);
+    io::write_all(1, b" reason");
+    if k == 0 {
+        compare(folder, written, &page);
+    } else {
+        verdict(holds(written, &page, &due[..k]));
+    }
 }
 
 // Whether what was written is what the folder's file `printed` has.
