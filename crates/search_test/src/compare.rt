@@ -1,5 +1,4 @@
 // A run and a session held to what the search found.
-use crate::truth::Truth;
 use command::EventRead;
 use log::LogRead;
 use log::PatternAnswer;
@@ -10,6 +9,8 @@ use session::Found;
 use session::Opened;
 use session::Session;
 use session::Verdict;
+use swap_search::lists;
+use swap_search::truth::Truth;
 
 // Whether the run says what the search says, or refuses the log as reading it does.
 pub(crate) fn run_agrees(judged: Judged, t: Truth, read: LogRead) -> bool {
@@ -117,84 +118,10 @@ fn a_match(t: Truth, n: usize, count: usize, numbers: [u16; 5]) -> bool {
         return false;
     }
     let k = t.sketch;
-    count == t.count(n) && zeros(numbers, k.size) && named_well(t, count, numbers)
+    count == t.count(n) && zeros(numbers, k.size) && lists::satisfies(t, k.size, count, numbers)
 }
 
 // Whether the numbers are 0 from a place on.
 fn zeros(numbers: [u16; 5], from: usize) -> bool {
-    same_from(numbers, [0; 5], from)
-}
-
-// Whether two lists are the same from a place on.
-pub(crate) fn same_from(a: [u16; 5], b: [u16; 5], from: usize) -> bool {
-    for i in 0..5 {
-        if from <= i && a[i] != b[i] {
-            return false;
-        }
-    }
-    true
-}
-
-// Whether the events named fit their slots, lie within the count, and can stand in the slots' sequence.
-pub(crate) fn named_well(t: Truth, count: usize, numbers: [u16; 5]) -> bool {
-    let k = t.sketch;
-    for i in 0..5 {
-        if i < k.size && !slot_named_well(t, count, numbers, i) {
-            return false;
-        }
-    }
-    true
-}
-
-fn slot_named_well(t: Truth, count: usize, numbers: [u16; 5], i: usize) -> bool {
-    if 5 <= i {
-        return false;
-    }
-    fills(t, count, i, numbers[i]) && none_too_early(t, numbers, i)
-}
-
-// Whether the event of that number is within the count, and fits slot i.
-fn fills(t: Truth, count: usize, i: usize, number: u16) -> bool {
-    let n = number as usize;
-    if n < 1 {
-        return false;
-    }
-    if count < n {
-        return false;
-    }
-    if plain::MOST < n {
-        return false;
-    }
-    if 5 <= i {
-        return false;
-    }
-    let k = t.sketch;
-    let l = t.leading;
-    k.slots[i] == l.events[n - 1]
-}
-
-// Whether for no slot after slot i its event comes before slot i's event or is it.
-fn none_too_early(t: Truth, numbers: [u16; 5], i: usize) -> bool {
-    if 5 <= i {
-        return false;
-    }
-    let k = t.sketch;
-    for j in 0..5 {
-        if i < j && j < k.size && comes_before(t, numbers[j], numbers[i]) {
-            return false;
-        }
-    }
-    true
-}
-
-// Whether event a comes before event b or is it, both counted from 1; or one of the numbers is 0.
-pub(crate) fn comes_before(t: Truth, a: u16, b: u16) -> bool {
-    if a < 1 {
-        return true;
-    }
-    if b < 1 {
-        return true;
-    }
-    let before = t.before;
-    plain::at(&before, a as usize - 1, b as usize - 1)
+    lists::same_from(numbers, [0; 5], from)
 }

@@ -1,7 +1,7 @@
 // The bytes of a replay by the words of document 02, Note 1, with the chains of the log's events computed plainly.
-use crate::compare;
-use crate::truth::Truth;
 use command::EventRead;
+use swap_search::lists;
+use swap_search::truth::Truth;
 
 pub const SPACE: usize = 64;
 
@@ -47,19 +47,19 @@ fn next(
 // "First come all events that come before or are slot 1's event, then those not yet written that do so for slot 2's, and so on, then the rest". A slot that is not
 // there has the number 0, and so takes the rest.
 fn group_of(t: Truth, numbers: [u16; 5], event: u16) -> usize {
-    if compare::comes_before(t, event, numbers[0]) {
+    if lists::comes_before(t, event, numbers[0]) {
         return 0;
     }
-    if compare::comes_before(t, event, numbers[1]) {
+    if lists::comes_before(t, event, numbers[1]) {
         return 1;
     }
-    if compare::comes_before(t, event, numbers[2]) {
+    if lists::comes_before(t, event, numbers[2]) {
         return 2;
     }
-    if compare::comes_before(t, event, numbers[3]) {
+    if lists::comes_before(t, event, numbers[3]) {
         return 3;
     }
-    if compare::comes_before(t, event, numbers[4]) {
+    if lists::comes_before(t, event, numbers[4]) {
         return 4;
     }
     5

@@ -1,10 +1,10 @@
 // Lists whose orders are counted without a search: seven marks, shared out among threads.
-use crate::orders;
-use crate::orders::Question;
 use crate::tally;
 use crate::tally::COUNTS;
 use crate::tally::KNOWN;
 use plain::MOST;
+use swap_search::orders;
+use swap_search::orders::Question;
 
 // The counts are 1; 7! / (4! 3!) = 35; 7! / (3! 2! 2!) = 210; 7! = 5040.
 pub(crate) fn run(queue: &mut [u32], seen: &mut [bool], counts: &mut [u64; COUNTS]) {

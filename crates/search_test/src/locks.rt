@@ -1,7 +1,7 @@
 // Locks taken again by their holder, told by counting acquires and releases.
-use crate::truth;
 use plain::Leading;
 use plain::MOST;
+use swap_search::truth;
 
 // Whether some event acquires a lock that is held; where the log is accepted, by the same thread.
 pub(crate) fn taken_again(l: Leading) -> bool {

@@ -5,19 +5,18 @@ mod grouped;
 mod known;
 mod listed;
 mod locks;
-mod orders;
 mod pairs;
-mod patterns;
 mod replays;
 mod tally;
 mod threads;
-mod truth;
 
-use drawn::Draft;
 use log::LogRead;
 use run::Judged;
+use swap_search::orders;
+use swap_search::samples;
+use swap_search::samples::Sample;
+use swap_search::truth::Truth;
 use tally::COUNTS;
-use truth::Truth;
 
 const LOGS: usize = 100000;
 
@@ -41,54 +40,34 @@ fn all(
 ) {
     let mut drawn: u32 = 2;
     for n in 0..LOGS {
-        drawn = on_next(queue, seen, log, pattern, counts, drawn, (n % 5) as u8);
+        let s = samples::draw(queue, seen, log, pattern, drawn, n);
+        drawn = s.last();
+        on_log(queue, seen, log, pattern, s, counts);
     }
 }
 
-// Draws one log; the last number drawn.
-fn on_next(
-    queue: &mut [u32],
-    seen: &mut [bool],
-    log: &mut [u8],
-    pattern: &mut [u8],
-    counts: &mut [u64; COUNTS],
-    drawn: u32,
-    mix: u8,
-) -> u32 {
-    let made = make(log, drawn, mix);
-    let size = made.at;
-    if log.len() < size {
-        return drawn;
-    }
-    on_log(queue, seen, &log[..size], pattern, counts, made.drawn)
-}
-
-fn make(log: &mut [u8], drawn: u32, mix: u8) -> Draft {
-    if mix == 0 {
-        return drawn::make(log, drawn);
-    }
-    drawn::make_mixed(log, drawn, mix)
-}
-
-// Draws a pattern for the log, and compares.
+// Compares, where the log and the pattern are within their buffers.
 fn on_log(
     queue: &mut [u32],
     seen: &mut [bool],
     log: &[u8],
-    pattern: &mut [u8],
+    pattern: &[u8],
+    s: Sample,
     counts: &mut [u64; COUNTS],
-    from: u32,
-) -> u32 {
-    let leading = plain::read(log);
-    let sketch = patterns::draw(leading, from);
-    let size = patterns::write(pattern, sketch);
-    let truth = truth::of(queue, seen, leading, sketch);
-    pairs::of(log, leading, counts);
-    if pattern.len() < size {
-        return sketch.drawn;
+) {
+    let log_size = s.log;
+    let pattern_size = s.pattern;
+    let t = s.truth;
+    if log.len() < log_size {
+        return;
     }
-    compared(queue, seen, &pattern[..size], log, truth, counts);
-    sketch.drawn
+    if pattern.len() < pattern_size {
+        return;
+    }
+    let p = &pattern[..pattern_size];
+    let l = &log[..log_size];
+    pairs::of(l, t.leading, counts);
+    compared(queue, seen, p, l, t, counts);
 }
 
 fn compared(

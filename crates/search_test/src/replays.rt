@@ -2,18 +2,19 @@
 use crate::compare;
 use crate::grouped;
 use crate::grouped::SPACE;
-use crate::orders;
-use crate::orders::Question;
-use crate::patterns::Sketch;
 use crate::tally;
 use crate::tally::COUNTS;
 use crate::tally::REPLAYS;
-use crate::truth;
-use crate::truth::Truth;
 use log::LogRead;
 use plain::Leading;
 use run::Judged;
 use run::Outcome;
+use swap_search::lists;
+use swap_search::orders;
+use swap_search::orders::Question;
+use swap_search::patterns::Sketch;
+use swap_search::truth;
+use swap_search::truth::Truth;
 ghost use Prim.Native.Nat.{_≤_};
 
 // What a replay call gave, and the bytes afterwards, of which a part was lent.
@@ -89,7 +90,7 @@ fn answers(c: Call, t: Truth, read: LogRead, run: Judged) -> bool {
     let judged = c.judged;
     let numbers = judged.numbers;
     let run_numbers = run.numbers;
-    compare::run_agrees(judged, t, read) && compare::same_from(numbers, run_numbers, 0)
+    compare::run_agrees(judged, t, read) && lists::same_from(numbers, run_numbers, 0)
 }
 
 // Whether the length and all bytes are those due on a match, or nothing is written.

@@ -1,11 +1,12 @@
 // What was seen: kinds of logs and patterns, matches and disagreements. The file stdin has the words for each count, a line each.
 use crate::locks;
-use crate::patterns;
 use crate::threads;
-use crate::truth;
-use crate::truth::Truth;
 use log::LogRead;
 use plain::Leading;
+use swap_search::patterns;
+use swap_search::truth;
+use swap_search::truth::Truth;
+use swap_search::words;
 
 pub const COUNTS: usize = CHILDREN + THREADS;
 
@@ -135,29 +136,6 @@ fn named_at(counts: &mut [u64; COUNTS], l: Leading, i: usize) {
     add_if(counts, CHILDREN + i, threads::named(l, i as u32, true));
 }
 
-// Each count after its words.
 pub(crate) fn print(counts: &[u64; COUNTS]) {
-    let mut space = io::buffer();
-    let n = io::read_full(0, &mut space);
-    print_by(&space[..n], counts);
-}
-
-fn print_by(words: &[u8], counts: &[u64; COUNTS]) {
-    let mut at: usize = 0;
-    for i in 0..COUNTS {
-        at = print_line(words, at, counts[i]);
-    }
-}
-
-// The line from a place on, and its count; the place of the next line.
-fn print_line(words: &[u8], at: usize, n: u64) -> usize {
-    let end = console::find(words, at, b'\n');
-    if words.len() < end {
-        return at;
-    }
-    if end < at {
-        return at;
-    }
-    console::count(&words[at..end], n);
-    end + 1
+    words::print(counts);
 }

@@ -5,26 +5,22 @@ use borrow.Author.Needs.{needs}
 use Rattle.search_test.proofs.on_log.Statement.{statement}
 use Rattle.search_test.proofs.on_log.Tie as tie
 
-slice-aggregate-compared : tie.Need-slice-aggregate-compared
-slice-aggregate-compared c = simp (length-take) (omega arith)
+slice-aggregate-p : tie.Need-slice-aggregate-p
+slice-aggregate-p c = simp (length-take) (omega arith)
+
+slice-aggregate-l : tie.Need-slice-aggregate-l
+slice-aggregate-l c = simp (length-take) (omega arith)
 
 pub on-log-spec : {M : Type 1} → statement M
 on-log-spec =
     tie.close
     (tie.spec
-    (λ c κs. search needs)
-    (λ c κs. search needs)
-    (λ c κs. search needs)
-    (λ c κs. search needs)
-    (λ c κs. search needs)
     (λ c. search needs)
     (λ c. search needs)
-    (λ c. search needs)
-    (λ c. search needs)
-    (λ c. search needs)
-    slice-aggregate-compared
+    slice-aggregate-p
+    slice-aggregate-l
     (λ c κs. search needs)
-    (λ c. search needs)
+    (λ c κs. search needs)
     (λ c. search needs)
     (λ c. search needs)
     (λ c. search needs))
