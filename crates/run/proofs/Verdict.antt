@@ -15,11 +15,10 @@ use Rattle.event.specs.declared.Slot.{Slot}
 use Rattle.event.specs.Limits.{slots as slotLimit}
 use Rattle.event.specs.Slots.{fits, noEvent, noSlot}
 use Rattle.event.specs.Keys.{slotKeys}
-use Rattle.command.specs.Bytes.{Bytes}
 use Rattle.log.specs.declared.LogRead.{LogRead}
 use Rattle.log.specs.declared.LogRead.the-variants as read
 use Rattle.log.specs.declared.Pattern.{Pattern}
-use Rattle.log.specs.Whole.{accepted, refused, readLog, Passing, passed, outcomeOf, patternFrom, readPattern, logReadIs}
+use Rattle.log.specs.Whole.{accepted, readLog, Passing, outcomeOf, readPattern, logReadIs}
 use Rattle.log.proofs.Answers.{told-accepted, told-refused}
 use Rattle.trace.specs.Match.{without}
 use Rattle.trace.proofs.First.{Tells, match, no-match, greatest, chosen-tells}
@@ -33,11 +32,9 @@ use Rattle.first.proofs.Filling.{no-numbers, ss-length}
 use Rattle.slot_search.specs.declared.LogSearch.{LogSearch}
 use Rattle.slot_search.specs.Patterns.{Usable}
 use Rattle.slot_search.specs.Searching.{SearchedIn}
-use Rattle.slot_search.proofs.Usable.{slots-taken}
 use Rattle.run.specs.declared.Judged.{Judged}
 use Rattle.run.specs.declared.Outcome.the-variants.{PatternRefused}
-use Rattle.session.specs.Answers.{Given}
-use Rattle.session.specs.Meaning.{RunOn, log-refused, judged, RunOf, pattern-refused, over-log}
+use Rattle.session.specs.Meaning.{RunOn, log-refused, judged, RunOf, pattern-refused}
 use Rattle.run.specs.Answers.{judgedIs, judgedBy, judgedOn, judgedAfter, greatestOf}
 
 -- ---- the verdict of a search
@@ -142,9 +139,3 @@ searched-verdict {p} u {bytes} r h = go (r .read) (h .answer)
 pub refused-pattern : (pattern bytes : List ℕ) {k o : ℕ} → Passing.refused k o ≡ outcomeOf (readPattern pattern)
     → RunOf pattern bytes (judgedIs (record { outcome = PatternRefused k o; numbers = replicate slotLimit 0 }))
 refused-pattern pattern bytes a = pattern-refused (told-refused (readPattern pattern) a)
-
-pub accepted-pattern : (pattern bytes : List ℕ) {n : ℕ} → passed n ≡ outcomeOf (readPattern pattern) → (g : Given)
-    → RunOn (take (patternFrom (readPattern pattern) .size) (patternFrom (readPattern pattern) .slots)) bytes g → RunOf pattern bytes g
-accepted-pattern pattern bytes a g h =
-    let r = told-accepted (readPattern pattern) a in
-    over-log (r .1) (subst (λ (ss : List Slot). RunOn ss bytes g) (slots-taken (r .0)) (rw (r .1) at h))

@@ -30,9 +30,12 @@ usable ss g =
       low = slots-low ss (replicate (slotLimit - length ss) blank) (g .limits);
     }
 
--- the slots of a pattern by value are those that it was made of
-pub slots-taken : (ss : List Slot) → take (patternOf ss .size) (patternOf ss .slots) ≡ ss
-slots-taken ss = take-append-seam ss (replicate (slotLimit - length ss) blank)
+-- what is so of the slots that an accepted pattern holds by value is so of those that it was read as
+pub accepted-slots : (P : List Slot → Type 0) (pattern : List ℕ) {n : ℕ} → passed n ≡ outcomeOf (readPattern pattern)
+    → P (take (patternFrom (readPattern pattern) .size) (patternFrom (readPattern pattern) .slots)) → (ss : List Slot) × (readPattern pattern ≡ accepted ss) × P ss
+accepted-slots P pattern a h =
+    let r = told-accepted (readPattern pattern) a in
+    (r .0, r .1, subst P (take-append-seam (r .0) (replicate (slotLimit - length (r .0)) blank)) (rw (r .1) at h))
 
 pub accepted-usable : (pattern : List ℕ) → Bytes pattern → {n : ℕ} → passed n ≡ outcomeOf (readPattern pattern) → Usable (patternFrom (readPattern pattern))
 accepted-usable pattern b a =

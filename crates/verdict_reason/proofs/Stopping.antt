@@ -14,7 +14,7 @@ use Rattle.event.specs.Places.{inPlaces}
 use Rattle.event.specs.Slots.{fits, noEvent, noSlot}
 use Rattle.log.specs.declared.Pattern.{Pattern}
 use Rattle.log.specs.declared.LogRead.the-variants as read
-use Rattle.log.specs.Whole.{accepted, readLog, readPattern, patternFrom, passed, outcomeOf, logReadIs}
+use Rattle.log.specs.Whole.{accepted, readLog, passed, outcomeOf, logReadIs}
 use Rattle.log.proofs.Answers.{told-accepted}
 use Rattle.log.proofs.Leading.{accepted-leads}
 use Rattle.trace.specs.Tuples.{Among}
@@ -32,14 +32,13 @@ use Rattle.passes.specs.Passes.{Leads}
 use Rattle.slot_search.specs.declared.LogSearch.{LogSearch}
 use Rattle.slot_search.specs.Patterns.{Usable}
 use Rattle.slot_search.specs.Searching.{SearchedIn}
-use Rattle.slot_search.proofs.Usable.{slots-taken}
 use Rattle.session.specs.Answers.{Given}
 use Rattle.session.specs.Meaning.{RunOn}
 use Rattle.run.specs.Answers.{judgedIs, judgedAfter}
 use Rattle.run.proofs.Verdict.{slots-of, searched-verdict}
 use Rattle.verdict_reason.specs.declared.Cause.{Cause}
 use Rattle.verdict_reason.specs.declared.Cause.the-variants.{Decided}
-use Rattle.verdict_reason.specs.Reasons.{causeOf, ReasonOn, log-refused, match, no-match, ReasonOf, over-log}
+use Rattle.verdict_reason.specs.Reasons.{causeOf, ReasonOn, log-refused, match, no-match}
 use Rattle.verdict_reason.specs.Causes.{Stopped, Causes}
 use Rattle.verdict_reason.proofs.ByStamps.{numbered-take}
 
@@ -134,11 +133,3 @@ module _ {p : Pattern} (u : Usable p) {bytes : List ℕ} (r : LogSearch) (h : Se
       let settled = h .settled (e .0) (e .1) in
       reason-given u settled less said (e .1)
       (causes (e .0) (record { to = l .0; read = l .1; count = c; few = let f = l .2 in omega arith }) (stopped-there u settled less))
-
--- ---- the pattern's answer tells which case its reading was
-
-pub accepted-pattern : (pattern bytes : List ℕ) {n : ℕ} → passed n ≡ outcomeOf (readPattern pattern) → {g : Given} {cause : Cause} {events : List ℕ}
-    → ReasonOn (take (patternFrom (readPattern pattern) .size) (patternFrom (readPattern pattern) .slots)) bytes g cause events → ReasonOf pattern bytes g cause events
-accepted-pattern pattern bytes a {g} {cause} {events} h =
-    let r = told-accepted (readPattern pattern) a in
-    over-log (r .1) (subst (λ (ss : List Slot). ReasonOn ss bytes g cause events) (slots-taken (r .0)) (rw (r .1) at h))

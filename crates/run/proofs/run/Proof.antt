@@ -1,8 +1,10 @@
 use mathlib.Core.Path.{sym, ap, _∙_}
 use Rattle.command.specs.Bytes.{Bytes}
 use Rattle.log.specs.Whole.{patternAnswerIs}
-use Rattle.slot_search.proofs.Usable.{accepted-usable}
-use Rattle.run.proofs.Verdict.{refused-pattern, accepted-pattern}
+use Rattle.session.specs.Meaning.{RunOn, over-log}
+use Rattle.slot_search.proofs.Usable.{accepted-usable, accepted-slots}
+use Rattle.run.specs.Answers.{judgedIs}
+use Rattle.run.proofs.Verdict.{refused-pattern}
 use borrow.Author.Needs.{needs}
 use Rattle.run.proofs.run.Statement.{statement}
 use Rattle.run.proofs.run.Tie as tie
@@ -20,9 +22,11 @@ returns c =
 
 returns-2 : tie.Need-returns-2
 returns-2 c =
+    let a = c .before .before .before .before .before .before .before .args in
     let read = c .before .before .before .before .read-pattern .ensures in
-    let told = c .before .enum-told .given .1 in
-    accepted-pattern _ _ (sym (ap patternAnswerIs told) ∙ read .answer) _ (rw (read .pattern) at (c .run-on .ensures))
+    let told = sym (ap patternAnswerIs (c .before .enum-told .given .1)) ∙ read .answer in
+    let over = accepted-slots (λ ss. RunOn ss (a .log .now) (judgedIs (c .run-on .result))) (a .pattern .now) told (rw (read .pattern) at (c .run-on .ensures)) in
+    over-log (over .1) (over .2)
 
 pub run-spec : {M : Type 1} → statement M
 run-spec =

@@ -20,7 +20,7 @@ none-more {p} {j} h f m u v = go (ℕ-discrete m (suc j))
     go (no d) = h m u (omega arith)
 
 abbrev Inv-loop : tie.InvT-loop
-Inv-loop thread place k stamps j₀ j = (j ≤ k) × ((m : ℕ) → 1 ≤ m → m ≤ j → countsAt stamps thread place m ≡ false)
+Inv-loop thread place k stamps j₀ j = (m : ℕ) → 1 ≤ m → m ≤ j → countsAt stamps thread place m ≡ false
 
 abbrev μ-loop : tie.MeasureT-loop
 μ-loop thread place k stamps j₀ j = k - j
@@ -29,14 +29,13 @@ returns : tie.Need-returns Inv-loop μ-loop
 returns c =
     let l = c .before .before .before .before .loop in
     let t = c .before .before .before .loop-test .taken in
-    rw add-one (at {k = l .j} (omega arith) (le-leb _ _ (rw (c .before .count-of .ensures) at (c .if1 .taken))) (λ m u v. l .inv .1 m u (omega arith)))
+    rw add-one (at {k = l .j} (omega arith) (le-leb _ _ (rw (c .before .count-of .ensures) at (c .if1 .taken))) (λ m u v. l .inv m u (omega arith)))
 
 loop-again : tie.Need-loop-again Inv-loop μ-loop
 loop-again c =
     let l = c .before .before .before .before .loop in
-    let t = c .before .before .before .loop-test .taken in
     let f = lt-leb _ _ (rw (c .before .count-of .ensures) at (c .if1 .left)) in
-    (omega arith, λ m u v. none-more (l .inv .1) f m u (rw add-one at v))
+    λ m u v. none-more (l .inv) f m u (rw add-one at v)
 
 pub lowest-spec : {M : Type 1} → statement M
 lowest-spec =
@@ -44,7 +43,7 @@ lowest-spec =
     (tie.spec
     Inv-loop
     μ-loop
-    (λ c. (search needs, λ m u v. absurd (let z : ⊥ = omega arith in z)))
+    (λ c. λ m u v. absurd (let z : ⊥ = omega arith in z))
     (λ c. search needs)
     (λ c. search needs)
     (λ c κs. search needs)
@@ -53,4 +52,4 @@ lowest-spec =
     (λ c. search needs)
     (λ c. search needs)
     loop-again
-    (λ c. nowhere (λ m u v. c .before .loop .inv .1 m u (let t = c .loop-test .left in omega arith))))
+    (λ c. nowhere (λ m u v. c .before .loop .inv m u (let t = c .loop-test .left in omega arith))))

@@ -1,11 +1,10 @@
 use mathlib.Core.Path.{sym, ap, _∙_}
-use mathlib.Core.List.{List}
 use Rattle.command.specs.Bytes.{Bytes}
 use Rattle.log.specs.Whole.{readPattern, patternAnswerIs}
-use Rattle.log.proofs.Answers.{told-accepted, told-refused}
-use Rattle.slot_search.proofs.Usable.{accepted-usable}
-use Rattle.verdict_reason.specs.Reasons.{pattern-refused}
-use Rattle.verdict_reason.proofs.Stopping.{accepted-pattern}
+use Rattle.log.proofs.Answers.{told-refused}
+use Rattle.run.specs.Answers.{judgedIs}
+use Rattle.slot_search.proofs.Usable.{accepted-usable, accepted-slots}
+use Rattle.verdict_reason.specs.Reasons.{ReasonOn, pattern-refused, over-log}
 use borrow.Author.Needs.{needs}
 use Rattle.verdict_reason.proofs.reason.Statement.{statement}
 use Rattle.verdict_reason.proofs.reason.Tie as tie
@@ -23,8 +22,12 @@ returns c =
 
 returns-2 : tie.Need-returns-2
 returns-2 c =
+    let a = c .before .before .before .before .before .before .before .args in
+    let r = c .reason-on .result in
     let read = c .before .before .before .before .read-pattern .ensures in
-    accepted-pattern (c .before .before .before .before .before .before .before .args .pattern .now) _ (sym (ap patternAnswerIs (c .before .enum-told .given .1)) ∙ read .answer) (rw (read .pattern) at (c .reason-on .ensures))
+    let told = sym (ap patternAnswerIs (c .before .enum-told .given .1)) ∙ read .answer in
+    let over = accepted-slots (λ ss. ReasonOn ss (a .log .now) (judgedIs (r .judged)) (r .cause) (r .events)) (a .pattern .now) told (rw (read .pattern) at (c .reason-on .ensures)) in
+    over-log (over .1) (over .2)
 
 pub reason-spec : {M : Type 1} → statement M
 reason-spec =
