@@ -25,10 +25,25 @@ use Rattle.trace.proofs.FirstChoice.{Chosen, Stuck, choose, chosen_good, chosen_
 -- ---- smaller at the first place where they differ
 
 pub smaller_turned : {is js : List ℕ} → Smaller is js → ¬ Smaller js is
-smaller_turned (here l) (here h) = omega arith
-smaller_turned (here l) (later r) = omega arith
-smaller_turned (later r) (here h) = omega arith
-smaller_turned (later r) (later q) = smaller_turned r q
+smaller_turned r q = turned r q refl refl
+  where
+    turned : {is js ks ls : List ℕ} → Smaller is js → Smaller ks ls → ks ≡ js → ls ≡ is → ⊥
+    turned (here {i = i} {j = j} l) (here {i = k} {j = m} h) e f =
+        let p : k ≡ j = cc in
+        let q : m ≡ i = cc in
+        omega arith
+    turned (here {i = i} {j = j} l) (later {i = k} r) e f =
+        let p : k ≡ j = cc in
+        let q : k ≡ i = cc in
+        omega arith
+    turned (later {i = i} r) (here {i = k} {j = m} h) e f =
+        let p : k ≡ i = cc in
+        let q : m ≡ i = cc in
+        omega arith
+    turned (later {is = is} {js = js} r) (later {is = ks} {js = ls} q) e f =
+        let p : ks ≡ js = cc in
+        let p' : ls ≡ is = cc in
+        turned r q p p'
 
 -- what is least in every place is smaller than what differs from it
 pub least_smaller : {is js : List ℕ} → Each (λ i j. i ≤ j) is js → ¬ (is ≡ js) → Smaller is js
@@ -53,6 +68,7 @@ greatest_le b (i ∷ is) h =
     omega arith
 
 le_greatest : {i : ℕ} (is : List ℕ) → Mem i is → i ≤ greatest is
+le_greatest [] m = elim m [ ]
 le_greatest (j ∷ is) (head e) = omega arith
 le_greatest (j ∷ is) (tail m) = let h = le_greatest is m in omega arith
 

@@ -33,6 +33,7 @@ module _ {A : Type 0} where
 
   -- the first element from one list, the others from the next
   pub sublist_join : {e : A} {es : List A} (fs : List A) {bs : List A} → Mem e fs → Sublist es bs → Sublist (e ∷ es) (fs ++ bs)
+  sublist_join [] m h = elim m [ ]
   sublist_join (a ∷ fs) (head p) h = take p (sublist_skip fs h)
   sublist_join (a ∷ fs) (tail m) h = skip (sublist_join fs m h)
 
@@ -46,7 +47,7 @@ module _ {S A : Type 0} (fits : S → A → Bool) where
   pub holds_of : {ss : List S} {es ys : List A} → Sublist es ys → Fitting fits ss es → Holds fits ss ys
   holds_of end Each.none = Holds.done
   holds_of (skip h) c = Holds.skip (holds_of h c)
-  holds_of (take e h) (Each.more {s = s} f c) = Holds.fit (rw e at f) (holds_of h c)
+  holds_of (take e h) (Each.more {s = s} {ss = ss} f c) = Holds.fit (rw e at f) (holds_of {ss = ss} h c)
 
   -- what holds the slots holds them with events behind it
   pub holds_ahead : {ss : List S} {ys : List A} (zs : List A) → Holds fits ss ys → Holds fits ss (ys ++ zs)

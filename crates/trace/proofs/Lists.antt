@@ -68,6 +68,7 @@ module _ {A : Type 0} where
       go (inr m') ih = (tail (ih m').0, (ih m').1)
 
   pub mem_filter : {z : A} (p : A → Bool) (xs : List A) → Mem z xs → p z ≡ true → Mem z (filter p xs)
+  mem_filter p [] m h = elim m [ ]
   mem_filter p (x ∷ xs) (head e) h = rw (sym (ap p e) ∙ h) (head e)
   mem_filter p (x ∷ xs) (tail m) h = keep_old x (p x) (mem_filter p xs m h)
 
@@ -86,6 +87,7 @@ module _ {A : Type 0} where
       go false e h' ih = let r = ih h' in (r.0, tail r.1, r.2)
 
   pub any_mem : {z : A} (p : A → Bool) (xs : List A) → Mem z xs → p z ≡ true → any p xs ≡ true
+  any_mem p [] m h = elim m [ ]
   any_mem p (x ∷ xs) (head e) h = rw (sym (ap p e) ∙ h)
   any_mem p (x ∷ xs) (tail m) h = or_right (p x) (any_mem p xs m h)
 

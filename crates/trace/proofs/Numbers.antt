@@ -34,8 +34,11 @@ module _ {E : Type 0} where
   numbered_mem (next n) = tail (numbered_mem n)
 
   pub mem_numbered : {log : List E} {e : E} → Mem e log → (i : ℕ) × Numbered log i e
-  mem_numbered {log = a ∷ log} (head q) = (1, subst (Numbered (a ∷ log) 1) (sym q) first)
-  mem_numbered (tail m) = let r = mem_numbered m in (suc r.0, next r.1)
+  mem_numbered {e = e} m = go m
+    where
+      go : {log : List E} → Mem e log → (i : ℕ) × Numbered log i e
+      go {log = a ∷ log} (head q) = (1, subst (Numbered (a ∷ log) 1) (sym q) first)
+      go (tail m) = let r = go m in (suc r.0, next r.1)
 
   -- later events change no number
   pub numbered_append : {log : List E} {i : ℕ} {e : E} (later : List E) → Numbered log i e → Numbered (log ++ later) i e

@@ -100,6 +100,7 @@ module _ (dep : ℕ → ℕ → Bool) where
 
   -- of a rising row the one number y
   only : (y : ℕ) (xs : List ℕ) → Pairs (λ x z. x < z) xs → Mem y xs → filter (eqb y) xs ≡ y ∷ []
+  only y [] p m = elim m [ ]
   only y (x ∷ xs) p (head e) =
       rw (eq-eqb y x e, sym e) (ap (λ l. y ∷ l) (nothing xs (λ z m f. let h = pairs_head p z m in omega arith)))
     where

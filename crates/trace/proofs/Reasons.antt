@@ -121,6 +121,7 @@ module _ {S : Type 0} (dep : ℕ → ℕ → Bool) (fits : S → ℕ → Bool) (
   -- an event of a good tuple that is no smaller than another for its slot: the other comes before it or is it
   partner : LawL dep fits → {ss : List S} {cs es : List ℕ} → Fitting fits ss cs → Fitting fits ss es → Each (λ e f. e ≤ f) cs es
       → {c : ℕ} → Mem c cs → (e : ℕ) × Mem e es × Before dep c e
+  partner law Each.none c d m = elim m [ ]
   partner law (Each.more {s = s} {a = a} t f) (Each.more {a = e} u g) (Each.more l h) (head q) =
       (e, head refl, rw q (before_dep dep l (law s a e t u)))
   partner law (Each.more t f) (Each.more u g) (Each.more l h) (tail m) =

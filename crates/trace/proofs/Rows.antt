@@ -53,6 +53,7 @@ module _ {A : Type 0} {R : A → A → Type 0} where
   pairs_right (x ∷ xs) p = pairs_right xs (pairs_tail p)
 
   pub pairs_across : (xs : List A) {ys : List A} → Pairs R (xs ++ ys) → (x : A) → Mem x xs → (y : A) → Mem y ys → R x y
+  pairs_across [] p x m y n = elim m [ ]
   pairs_across (z ∷ xs) p x (head e) y m = rw e (pairs_head p y (mem-right xs m))
   pairs_across (z ∷ xs) p x (tail n) y m = pairs_across xs (pairs_tail p) x n y m
 
