@@ -14,7 +14,7 @@ use Rattle.event.specs.Keys.{slot_number, slot_numbers}
 use Rattle.event.proofs.Tests.{by_test}
 use Rattle.rules.specs.State.{refusal_by}
 use Rattle.rules.proofs.StateLaws.{taken_in_range}
-use Rattle.log.specs.Whole.{InLimits, Passing, passed, refused, pattern_answer_is, pattern_of, read_pattern}
+use Rattle.event_log.specs.Whole.{InLimits, Passing, passed, refused, pattern_answer_is, pattern_of, read_pattern}
 use Rattle.command.specs.Bytes.{Bytes}
 use Rattle.session.specs.declared.Session.{Session}
 use Rattle.session.specs.declared.Opened.{Opened}

@@ -29,9 +29,9 @@ use Rattle.trace.proofs.Counts.{count_unique}
 use Rattle.dependence.specs.Dependence.{dependent}
 use Rattle.dependence.specs.Order.{HasMatch, Reason}
 use Rattle.dependence.proofs.Reached.{order_reached}
-use Rattle.log.specs.Whole.{log_bytes, accepted, read_log, read_pattern}
-use Rattle.log.proofs.Rows.{refused_not_accepted, one_list}
-use Rattle.log.proofs.LogRoundTrip.{log_read}
+use Rattle.event_log.specs.Whole.{log_bytes, accepted, read_log, read_pattern}
+use Rattle.event_log.proofs.Rows.{refused_not_accepted, one_list}
+use Rattle.event_log.proofs.LogRoundTrip.{log_read}
 use Rattle.session.specs.Model.{slots_used}
 use Rattle.session.specs.Meaning.{VerdictOf, RunOnUnder, RunOn, RunOfUnder, RunOf}
 use Rattle.session.specs.NoFit.{FitsNone}

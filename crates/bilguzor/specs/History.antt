@@ -9,7 +9,7 @@ use Rattle.event.specs.Limits.{slots as slot_limit}
 use Rattle.event.specs.Places.{in_places}
 use Rattle.event.specs.Slots.{byte_of, object_of, without_height}
 use Rattle.rules.specs.Accepted.{Accepted}
-use Rattle.log.specs.Whole.{Heights, accepted, log_bytes, read_log, read_pattern}
+use Rattle.event_log.specs.Whole.{Heights, accepted, log_bytes, read_log, read_pattern}
 use Rattle.trace.specs.Reason.{Obstacle}
 use Rattle.dependence.specs.Order.{Reaches, HasMatch, Reason}
 use Rattle.session.specs.Answers.{nothing}

@@ -6,7 +6,7 @@ use Rattle.event.specs.Slots.{slot_of}
 use Rattle.event.specs.Keys.{slot_number}
 use Rattle.rules.specs.Accepted.{refusal_after}
 use Rattle.rules.specs.State.{refusal_by}
-use Rattle.log.specs.Whole.{Passing, passed, refused, outcome_of, pattern_of, read_pattern}
+use Rattle.event_log.specs.Whole.{Passing, passed, refused, outcome_of, pattern_of, read_pattern}
 use Rattle.table.specs.Table.{numbers_in}
 use Rattle.session.specs.declared.Session.{Session}
 use Rattle.session.specs.Answers.{Ruling, found_is}

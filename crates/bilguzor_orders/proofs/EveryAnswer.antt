@@ -6,7 +6,7 @@ use mathlib.Core.List.{List}
 use lib.ListN.{length}
 use Rattle.event.specs.declared.Event.{Event}
 use Rattle.trace.specs.First.{Smaller}
-use Rattle.log.specs.Whole.{read_log, accepted}
+use Rattle.event_log.specs.Whole.{read_log, accepted}
 use Rattle.order_rows.specs.Rows.{order_places, order_row}
 use Rattle.orders_log.specs.OrderCalls.{IsOrder, Giving, order, last, log_refused, orders-refused, NextGives, SaysSo, Called, first_call, next_call, GivesEveryOrder}
 use Rattle.orders_log.proofs.EveryOrder.{row_one, every_order}

@@ -5,7 +5,7 @@ use mathlib.Core.List.{List, [], ◌∷◌, map, reverse}
 use lib.ListN.{length, length-map, get_or, replicate}
 use Rattle.event.specs.declared.Event.{Event}
 use Rattle.command.specs.Bytes.{Bytes}
-use Rattle.log.specs.Whole.{read_pattern}
+use Rattle.event_log.specs.Whole.{read_pattern}
 use Rattle.session.specs.Model.{slots_used}
 use Rattle.session_row.specs.Row.{most, numbers_over}
 use Rattle.trace.specs.Match.{Each, none, more}

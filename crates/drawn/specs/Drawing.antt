@@ -1,7 +1,7 @@
 -- What the helpers of drawing small logs answer.
 use Rattle.std.specs.Prelude.{ℕ, Bool, true, false}
-use Rattle.log.specs.declared.LogRead.{LogRead}
-use Rattle.log.specs.declared.LogRead.TheVariants as read
+use Rattle.event_log.specs.declared.LogRead.{LogRead}
+use Rattle.event_log.specs.declared.LogRead.TheVariants as read
 use Rattle.writer.specs.declared.Written.{Written}
 use Rattle.writer.specs.declared.Written.TheVariants as answer
 

@@ -4,7 +4,7 @@ ghost use Rattle.std.specs.Prelude.{◌≡◌, ◌≤◌, length};
 ghost use Rattle.drawn.specs.Drawing.{is_accepted, place_after};
 
 use event::{Event, Operation};
-use log::LogRead;
+use event_log::LogRead;
 use writer::Written;
 
 // A log under way: the place after it, and the last number drawn.
@@ -119,7 +119,7 @@ fn takes(buffer: &mut [u8], end: usize) -> bool {
         return false;
     }
     let size = end + 1;
-    accepted(log::read_log(&buffer[..size]))
+    accepted(event_log::read_log(&buffer[..size]))
 }
 
 // Whether a log is accepted.

@@ -14,7 +14,7 @@ use Rattle.event.specs.Range.{range_refusal_under}
 use Rattle.event.specs.Keys.{slot_number, slot_numbers}
 use Rattle.event.proofs.InRange.{in_range}
 use Rattle.event.proofs.SlotNumbers.{byte_low, fits_by_number}
-use Rattle.log.specs.Whole.{InLimits, no_slot_lem, one_slot, GoodPattern, blank, padded}
+use Rattle.event_log.specs.Whole.{InLimits, no_slot_lem, one_slot, GoodPattern, blank, padded}
 use Rattle.event_numbers.specs.SlotNumbers.{acting_in, fitting_in}
 
 -- a good pattern's slots are within their limits, and so are the places beyond them

@@ -18,7 +18,7 @@ use Rattle.command.specs.Reading.{command, read_event}
 use Rattle.clock.specs.declared.Stamp.{Stamp}
 use Rattle.clock.specs.Arrivals.{StampOf, ClocksOf, Arrived}
 use Rattle.passes.proofs.Passes.{stamp_stays}
-use Rattle.log.proofs.Leading.{Midway, at_start, past_it, within_limits_lem}
+use Rattle.event_log.proofs.Leading.{Midway, at_start, past_it, within_limits_lem}
 use Rattle.passes.specs.Passes.{Leads}
 use Rattle.event_stamps.specs.EventStamps.{no_entry, is_one_of, with_stamp, StampsTo}
 

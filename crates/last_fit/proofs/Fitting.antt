@@ -25,7 +25,7 @@ use Rattle.trace.proofs.FirstArrivals.{seen_snoc, place_seen}
 use Rattle.dependence.specs.Order.{thread_of}
 use Rattle.command.specs.Reading.{command, read_event}
 use Rattle.clock.specs.Clocks.{up}
-use Rattle.log.proofs.Leading.{Midway, at_start, past_it}
+use Rattle.event_log.proofs.Leading.{Midway, at_start, past_it}
 use Rattle.passes.specs.Passes.{Leads}
 use Rattle.passes.proofs.Passes.{seen_of, counts_up}
 use Rattle.last_fit.specs.declared.PlacedEvent.{PlacedEvent}

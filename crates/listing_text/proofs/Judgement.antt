@@ -9,8 +9,8 @@ use lib.Seq.{get_or-drop}
 use Rattle.event.specs.declared.Event.{Event}
 use Rattle.event.specs.declared.Slot.{Slot}
 use Rattle.event.specs.Slots.{fits}
-use Rattle.log.specs.Whole.{accepted, read_log}
-use Rattle.log.proofs.Numbering.{numbered_event}
+use Rattle.event_log.specs.Whole.{accepted, read_log}
+use Rattle.event_log.proofs.Numbering.{numbered_event}
 use Rattle.trace.specs.Before.{Numbered}
 use Rattle.trace.specs.Match.{Each, none, more}
 use Rattle.trace.specs.Tuples.{Among}

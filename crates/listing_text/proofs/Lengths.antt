@@ -13,7 +13,7 @@ use Rattle.height.specs.declared.Metres.{Metres}
 use Rattle.height.specs.Rounding.{metres_of}
 use Rattle.run.specs.declared.Outcome.{Outcome}
 use Rattle.run.specs.declared.Outcome.TheVariants.{Match, None, PatternRefused, LogRefused}
-use Rattle.log.specs.Number.{nth_event}
+use Rattle.event_log.specs.Number.{nth_event}
 use Rattle.page.specs.Text.{ascii, decimal}
 use Rattle.page.specs.Lines.{refusal_line}
 use Rattle.page.specs.Page.{room}

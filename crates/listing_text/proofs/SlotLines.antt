@@ -6,7 +6,7 @@ use mathlib.Core.List.{List, [], ◌∷◌, ◌++◌}
 use lib.ListN.{length, get_or, drop}
 use lib.Seq.{drop-cons, drop-length}
 use borrow.Author.Tests.{eq-eqb, ne_eqb}
-use Rattle.log.specs.Number.{nth_event}
+use Rattle.event_log.specs.Number.{nth_event}
 use Rattle.page.specs.declared.Page.{Page}
 use Rattle.page.specs.Page.{onto}
 use Rattle.page.proofs.Onto.{onto_append, onto_none}

@@ -3,7 +3,7 @@ use Rattle.std.specs.Prelude.{ℕ, ◌+◌, ◌<◌, ◌≤◌, ◌≡◌, List,
 use Rattle.event.specs.declared.Event.{Event}
 use Rattle.event.specs.declared.Slot.{Slot}
 use Rattle.writer.specs.declared.Written.{Written}
-use Rattle.log.specs.Whole.{accepted, refused, read_log, read_pattern}
+use Rattle.event_log.specs.Whole.{accepted, refused, read_log, read_pattern}
 use Rattle.trace.specs.Before.{Numbered}
 use Rattle.dependence.specs.Order.{HasMatch, IsCount, IsFirst}
 use Rattle.page.specs.Lines.{longest, refusal_line, too_long_line}

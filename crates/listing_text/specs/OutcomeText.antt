@@ -1,6 +1,6 @@
 -- The listing's text, by the outcome of a run and the numbers that it names.
 use Rattle.std.specs.Prelude.{ℕ, ◌+◌, cond, List, [], ◌∷◌, ◌++◌, eqb}
-use Rattle.log.specs.Number.{nth_event}
+use Rattle.event_log.specs.Number.{nth_event}
 use Rattle.run.specs.declared.Outcome.{Outcome}
 use Rattle.run.specs.declared.Outcome.TheVariants.{Match, None, PatternRefused, LogRefused}
 use Rattle.page.specs.Lines.{refusal_line}

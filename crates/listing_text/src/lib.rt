@@ -67,7 +67,7 @@ pub fn slot_lines(from: Page, log: &[u8], numbers: [u16; event::SLOTS]) -> Page
         if n == 0 {
             return p;
         }
-        let e = log::event_numbered(log, n as usize);
+        let e = event_log::event_numbered(log, n as usize);
         p = slot_line(p, j + 1, n as usize, e);
     }
     p

@@ -12,7 +12,7 @@ use Rattle.event.specs.declared.Slot.{Slot}
 use Rattle.event.proofs.Tests.{by_test}
 use Rattle.rules.specs.Accepted.{Accepted, taken_from}
 use Rattle.rules.proofs.AcceptedLists.{all_taken}
-use Rattle.log.specs.Whole.{accepted, read_log, read_pattern}
+use Rattle.event_log.specs.Whole.{accepted, read_log, read_pattern}
 use Rattle.dependence.specs.Order.{HasMatch, IsCount}
 use Rattle.page.specs.Text.{ascii}
 use Rattle.page.specs.Lines.{longest}

@@ -11,9 +11,9 @@ use lib.Seq.{get_or-set_same, get_or-set_other}
 use borrow.Author.Tests.{ltb-true, ltb-false, eqb-true, eqb-false}
 use Rattle.event.specs.declared.Slot.{Slot}
 use Rattle.event.proofs.Tests.{by_test}
-use Rattle.log.specs.declared.PatternAnswer.{PatternAnswer}
-use Rattle.log.specs.declared.PatternAnswer.TheVariants as pattern_answer
-use Rattle.log.specs.Whole.{Whole, accepted, refused, Passing, passed, outcome_of, pattern_answer_is, read_pattern}
+use Rattle.event_log.specs.declared.PatternAnswer.{PatternAnswer}
+use Rattle.event_log.specs.declared.PatternAnswer.TheVariants as pattern_answer
+use Rattle.event_log.specs.Whole.{Whole, accepted, refused, Passing, passed, outcome_of, pattern_answer_is, read_pattern}
 use Rattle.page.specs.Lines.{longest}
 use Rattle.session.specs.declared.Session.{Session}
 use Rattle.session.specs.declared.Opened.{Opened}

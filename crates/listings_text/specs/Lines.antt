@@ -1,7 +1,7 @@
 -- The line of a pattern file, by what was found of it, the session on its pattern and how the log ended; and the lines of all.
 use Rattle.std.specs.Prelude.{ℕ, zero, suc, cond, List, [], ◌∷◌, ◌++◌, ltb, get_or}
-use Rattle.log.specs.declared.PatternAnswer.{PatternAnswer}
-use Rattle.log.specs.declared.PatternAnswer.TheVariants as pattern_answer
+use Rattle.event_log.specs.declared.PatternAnswer.{PatternAnswer}
+use Rattle.event_log.specs.declared.PatternAnswer.TheVariants as pattern_answer
 use Rattle.page.specs.Text.{ascii}
 use Rattle.page.specs.Lines.{longest, refusal_line, too_long_line}
 use Rattle.listing_text.specs.Text.{pattern_refusal_line, no_match_line, match_line}

@@ -1,7 +1,7 @@
 -- What is kept of some pattern files before the log.
 use Rattle.std.specs.Prelude.{ℕ, ◌<◌, ◌≤◌, ◌≡◌, List, [], length, get_or}
 use Rattle.event.specs.declared.Slot.{Slot}
-use Rattle.log.specs.Whole.{accepted, refused, read_pattern}
+use Rattle.event_log.specs.Whole.{accepted, refused, read_pattern}
 use Rattle.page.specs.Lines.{longest}
 use Rattle.session.specs.declared.Session.{Session}
 use Rattle.session.specs.Meaning.{Describes}

@@ -7,7 +7,7 @@ ghost use Rattle.listings_text.specs.Listings.{File, holds, Listings};
 ghost use Rattle.listings_text.specs.Lines.{name_text, finding_of, found_line, end_line, refused_line, line_of, line_width, end_width, lines_before};
 ghost use Rattle.listings_text.specs.Watched.{WatchedOf};
 
-use log::PatternAnswer;
+use event_log::PatternAnswer;
 use page::Page;
 use row_pass::End;
 use session::{Found, Session};

@@ -11,8 +11,8 @@ use Rattle.event.specs.Limits.{events}
 use Rattle.event.proofs.Tests.{by_test}
 use Rattle.writer.specs.Writing.{Writing, written, refused, put}
 use Rattle.writer.proofs.Buffers.{length_put}
-use Rattle.log.proofs.Writes.{written_part}
-use Rattle.log.proofs.RowBytes.{same_place}
+use Rattle.event_log.proofs.Writes.{written_part}
+use Rattle.event_log.proofs.RowBytes.{same_place}
 use Rattle.load_log.specs.Load.{IsLoad, load_bytes, loading, loaded}
 use Rattle.load_log.proofs.Load.{load_is, load_length}
 

@@ -13,9 +13,9 @@ use Rattle.command.specs.Commands.{event_bytes, closing}
 use Rattle.writer.specs.declared.Written.{Written}
 use Rattle.writer.specs.declared.Written.TheVariants.{Next, Refused}
 use Rattle.writer.specs.Writing.{Writing, written, refused, writing, written_is, put, buffer_after}
-use Rattle.log.specs.Calls.{WriteCalls, end, more}
-use Rattle.log.proofs.RowBytes.{same_place}
-use Rattle.log.proofs.Writes.{log_written}
+use Rattle.event_log.specs.Calls.{WriteCalls, end, more}
+use Rattle.event_log.proofs.RowBytes.{same_place}
+use Rattle.event_log.proofs.Writes.{log_written}
 use Rattle.generator.specs.Rule.{next_state, event_in}
 use Rattle.load_log.specs.Load.{events_from, load_bytes}
 use Rattle.load_log.proofs.Events.{load_heights}

@@ -17,8 +17,8 @@ use Rattle.event.specs.Effects.{effects, effect_of}
 use Rattle.event.proofs.InRange.{InRange, from_range, range_passes}
 use Rattle.rules.specs.Accepted.{some, joined, event_rows, refusal_after, refusal_under, AcceptedAfter, whole, one_more}
 use Rattle.command.specs.Commands.{Height}
-use Rattle.log.specs.Whole.{Heights}
-use Rattle.log.proofs.RowBytes.{Every, none, also}
+use Rattle.event_log.specs.Whole.{Heights}
+use Rattle.event_log.proofs.RowBytes.{Every, none, also}
 use Rattle.generator.specs.Rule.{next_state, thread_in, kind_in, object_in, height_in, of_kind, event_in}
 use Rattle.generator.proofs.Heights.{height_small}
 use Rattle.load_log.specs.Load.{events_from}

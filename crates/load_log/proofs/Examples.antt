@@ -4,7 +4,7 @@
 use mathlib.Core.Path.{◌≡◌, refl}
 use mathlib.Core.List.{[], ◌∷◌, ◌++◌}
 use Rattle.generator.specs.Rule.{next_state, event_in}
-use Rattle.log.specs.Whole.{row_bytes}
+use Rattle.event_log.specs.Whole.{row_bytes}
 use Rattle.load_log.specs.Load.{events_from, load_bytes}
 
 pub one_event_lem : load_bytes 0 1 ≡ 7 ∷ 0 ∷ 6 ∷ 0 ∷ 0 ∷ []

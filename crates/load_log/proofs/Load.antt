@@ -14,9 +14,9 @@ use Rattle.event.specs.Slots.{no_event}
 use Rattle.rules.specs.Accepted.{Accepted}
 use Rattle.command.specs.Bytes.{Bytes}
 use Rattle.command.specs.Commands.{event_bytes}
-use Rattle.log.specs.Whole.{row_bytes, log_bytes, accepted, read_log}
-use Rattle.log.proofs.RowBytes.{none}
-use Rattle.log.proofs.LogRoundTrip.{log_iff, log_read}
+use Rattle.event_log.specs.Whole.{row_bytes, log_bytes, accepted, read_log}
+use Rattle.event_log.proofs.RowBytes.{none}
+use Rattle.event_log.proofs.LogRoundTrip.{log_iff, log_read}
 use Rattle.generator.specs.Rule.{next_state, state_at, event_in}
 use Rattle.load_log.specs.Load.{IsLoad, events_from, load_bytes}
 use Rattle.load_log.proofs.Events.{accepted_after, load_heights}

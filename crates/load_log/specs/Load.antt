@@ -4,7 +4,7 @@ use Rattle.event.specs.declared.Event.{Event}
 use Rattle.event.specs.Limits.{events}
 use Rattle.event.specs.Slots.{no_event}
 use Rattle.writer.specs.Writing.{Writing, writing, buffer_after}
-use Rattle.log.specs.Whole.{log_bytes, accepted, read_log}
+use Rattle.event_log.specs.Whole.{log_bytes, accepted, read_log}
 use Rattle.generator.specs.Rule.{next_state, state_at, event_in}
 
 -- what makes bytes a load, by reading them: "The log is always accepted, and equals this rule event by event." Event number n + 1 stands at place n.

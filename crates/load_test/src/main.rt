@@ -1,7 +1,7 @@
 // Loads held to stored logs, which were made by other means from the words of Note 11; what is refused, 22 and 15, on both sides of their limits, with the
 // buffer as it was; and loads saved as the program `load` saves them.
 use arguments::Pair;
-use log::LogRead;
+use event_log::LogRead;
 use writer::Written;
 
 // A byte more than any load has, so that what stands behind one is seen.
@@ -93,7 +93,7 @@ fn read(space: &[u8], size: usize) {
     if space.len() < size {
         return;
     }
-    match log::read_log(&space[..size]) {
+    match event_log::read_log(&space[..size]) {
         LogRead::Accepted { events } => {
             console::numbered(b", ", events as u64);
             console::text(b" events accepted");

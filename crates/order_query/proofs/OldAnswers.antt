@@ -7,7 +7,7 @@ use Rattle.event.specs.declared.Event.{Event}
 use Rattle.event.specs.Slots.{no_event}
 use Rattle.trace.proofs.Numbers.{at_numbered}
 use Rattle.dependence.specs.Order.{ComesBefore}
-use Rattle.log.proofs.Rows.{refused_not_accepted, one_list, one_refusal}
+use Rattle.event_log.proofs.Rows.{refused_not_accepted, one_list, one_refusal}
 use Rattle.relation.specs.declared.Relation.{Relation}
 use Rattle.relation.specs.declared.Relation.TheVariants.{Same, Before, After, Free}
 use Rattle.relation.specs.Relation.{Relates}

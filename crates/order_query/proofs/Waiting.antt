@@ -20,7 +20,7 @@ use Rattle.clock.specs.declared.Stamp.{Stamp}
 use Rattle.clock.specs.Arrivals.{StampOf, ClocksOf, Arrived}
 use Rattle.relation.specs.Relation.{IsStamped}
 use Rattle.relation.proofs.Comparison.{compared_right, stamped_stays}
-use Rattle.log.specs.Whole.{read_log, accepted}
+use Rattle.event_log.specs.Whole.{read_log, accepted}
 use Rattle.order_query.specs.declared.Awaited.{Awaited}
 use Rattle.order_query.specs.Query.{IsNumber, Answers, no_number, relates}
 use Rattle.order_query.specs.Awaiting.{not_yet, met, is_number, answer_at}

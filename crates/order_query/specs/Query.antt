@@ -2,7 +2,7 @@
 -- after where the second comes before the first, else free" (document 02, Note 2).
 use Rattle.std.specs.Prelude.{ℕ, ◌<◌, ◌≤◌, ◌≡◌, List, length}
 use Rattle.event.specs.declared.Event.{Event}
-use Rattle.log.specs.Whole.{read_log, accepted, refused}
+use Rattle.event_log.specs.Whole.{read_log, accepted, refused}
 use Rattle.relation.specs.declared.Relation.{Relation}
 use Rattle.relation.specs.Relation.{Relates}
 use Rattle.order_query.specs.declared.Order.{Order}

@@ -2,7 +2,7 @@
 -- it was stays here, so that "The old yes is exactly "same or before"" can be said of it (proofs/OldAnswers.antt).
 use Rattle.std.specs.Prelude.{ℕ, ◌≡◌, List}
 use Rattle.event.specs.declared.Event.{Event}
-use Rattle.log.specs.Whole.{read_log, accepted, refused}
+use Rattle.event_log.specs.Whole.{read_log, accepted, refused}
 use Rattle.dependence.specs.Order.{ComesBefore}
 use Rattle.relation.specs.declared.Relation.TheVariants.{Same, Before, After, Free}
 use Rattle.order_query.specs.Query.{OrderAnswer, related, IsNumber}

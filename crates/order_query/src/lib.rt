@@ -4,7 +4,7 @@ ghost use Rattle.order_query.specs.Query.{Answers, order_is};
 ghost use Rattle.order_query.specs.Awaiting.{not_yet, met, is_number, answer_at};
 
 use clock::Stamp;
-use log::Stepped;
+use event_log::Stepped;
 use relation::{Relation, StampedEvent};
 
 #[derive(Drop)]
@@ -32,7 +32,7 @@ pub fn query(log: &[u8], first: usize, second: usize) -> Order
     let mut taken: usize = 0;
     let mut at: usize = 0;
     loop {
-        let found = log::step(log, at, &mut state, taken);
+        let found = event_log::step(log, at, &mut state, taken);
         let Stepped::Event { event, next } = found else {
             let Stepped::LogRefused { number, offset } = found else {
                 return answer(one, other, taken);

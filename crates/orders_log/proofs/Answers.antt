@@ -20,7 +20,7 @@ use Rattle.trace.specs.Before.{Numbered}
 use Rattle.trace.specs.Tuples.{event_at, dep_at}
 use Rattle.trace.proofs.Lists.{both_ways}
 use Rattle.trace.proofs.Numbers.{at_numbered}
-use Rattle.log.specs.Whole.{Whole, accepted, refused, read_log, Passing, passed, outcome_of}
+use Rattle.event_log.specs.Whole.{Whole, accepted, refused, read_log, Passing, passed, outcome_of}
 use Rattle.dependence.specs.Dependence.{dependent}
 use Rattle.enumeration.specs.Computed.{next_order}
 use Rattle.enumeration.proofs.OrderLists.{first_is, next_is, order_sized}

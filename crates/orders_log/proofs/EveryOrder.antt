@@ -16,7 +16,7 @@ use Rattle.trace.specs.Match.{Holds}
 use Rattle.trace.specs.Tuples.{event_at, dep_at}
 use Rattle.trace.proofs.Lists.{both_ways}
 use Rattle.trace.proofs.Runs.{run}
-use Rattle.log.specs.Whole.{Whole, accepted, refused, read_log}
+use Rattle.event_log.specs.Whole.{Whole, accepted, refused, read_log}
 use Rattle.dependence.specs.Dependence.{dependent}
 use Rattle.dependence.specs.Order.{HasMatch}
 use Rattle.enumeration.specs.Orders.{NextAmong, InTurn}

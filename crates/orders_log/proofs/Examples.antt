@@ -8,7 +8,7 @@ use Rattle.event.specs.declared.Operation.TheVariants.{Mark}
 use Rattle.event.specs.Range.{range_refusal_under}
 use Rattle.rules.specs.Accepted.{some, lock_of, refusal_under}
 use Rattle.command.specs.Reading.{decode}
-use Rattle.log.specs.Whole.{read_log, read_log_under, accepted, row_from, step_under}
+use Rattle.event_log.specs.Whole.{read_log, read_log_under, accepted, row_from, step_under}
 use Rattle.dependence.specs.Dependence.{dependent}
 use Rattle.orders_log.specs.OrderCalls.{order, last, Called}
 use Rattle.orders_log.proofs.EveryOrder.{first_computed, next_computed}

@@ -2,7 +2,7 @@
 use Rattle.std.specs.Prelude.{ℕ, zero, suc, ◌<◌, ◌≤◌, ◌≡◌, cond, List, ltb, length, replicate}
 use Rattle.std.proofs.Math.Option.{Option, some, none}
 use Rattle.event.specs.declared.Event.{Event}
-use Rattle.log.specs.Whole.{read_log, accepted, refused}
+use Rattle.event_log.specs.Whole.{read_log, accepted, refused}
 use Rattle.dependence.specs.Dependence.{dependent}
 use Rattle.trace.proofs.Runs.{run}
 use Rattle.enumeration.specs.Orders as orders

@@ -4,13 +4,13 @@ ghost use Rattle.std.proofs.Math.Option.{Option};
 ghost use Rattle.event.specs.declared.Event.{Event};
 ghost use Rattle.event.specs.Slots.{no_event};
 ghost use Rattle.event.specs.Places.{in_places};
-ghost use Rattle.log.specs.Whole.{read_log, accepted};
+ghost use Rattle.event_log.specs.Whole.{read_log, accepted};
 ghost use Rattle.enumeration.specs.Computed.{ordered};
 ghost use Rattle.order_rows.specs.Rows.{order_places, dependent_in, next_row};
 ghost use Rattle.orders_log.specs.OrderCalls.{IsRow, orders-refused, afterwards, NextAmongEvents, FirstGives, NextGives, first_of, given_of, GivesSo};
 
 use event::{Event, Operation};
-use log::LogRead;
+use event_log::LogRead;
 use order_rows::{NextRow, PLACES};
 
 // What a call gives: an order; that the given one was the last; or a refusal, of the log or of what is asked of it.
@@ -34,7 +34,7 @@ pub fn first(log: &[u8]) -> GivenRow
     ensures gives { GivesSo (FirstGives log.now) result }
     ensures places { length result.row ≡ order_places }
 {
-    let read = log::read_log(log);
+    let read = event_log::read_log(log);
     match read {
         LogRead::Accepted { events } => first_of(events),
         LogRead::LogRefused { number, offset } => no_row(Given::LogRefused { number, offset }),
@@ -79,7 +79,7 @@ pub fn next(log: &[u8], row: &[u8]) -> GivenRow
     ensures gives { GivesSo (NextGives log.now row.now) result }
     ensures places { length result.row ≡ order_places }
 {
-    let read = log::read_log(log);
+    let read = event_log::read_log(log);
     match read {
         LogRead::Accepted { events } => next_of(log, events, row),
         LogRead::LogRefused { number, offset } => no_row(Given::LogRefused { number, offset }),
@@ -109,7 +109,7 @@ fn events_of(log: &[u8], count: usize) -> [Event; PLACES]
     let mut events = [none; PLACES];
     let mut n: usize = 0;
     while n < count {
-        let e = log::event_numbered(log, n + 1);
+        let e = event_log::event_numbered(log, n + 1);
         events[n] = e;
         n += 1;
     }

@@ -31,7 +31,7 @@ use Rattle.clock.specs.Clocks.{highest_count, up, stamp_by, clocks_after}
 use Rattle.clock.specs.Arrivals.{StampOf, ClocksOf}
 use Rattle.clock.proofs.Later.{entry_stays}
 use Rattle.command.specs.Reading.{command, read_event}
-use Rattle.log.proofs.Leading.{Midway, at_start, past_it, within_limits_lem}
+use Rattle.event_log.proofs.Leading.{Midway, at_start, past_it, within_limits_lem}
 use Rattle.passes.specs.LastPlaces.{last_by}
 use Rattle.passes.specs.Passes.{Leads, SlotsOf, LastsOf, fills_at, FirstAbove, StampedTo}
 use Rattle.passes.proofs.Noting.{followed_by}

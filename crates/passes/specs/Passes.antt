@@ -13,7 +13,7 @@ use Rattle.trace.proofs.FirstArrivals.{above_of, BoundOf}
 use Rattle.clock.specs.declared.Stamp.{Stamp}
 use Rattle.clock.specs.Arrivals.{StampOf, ClocksOf}
 use Rattle.command.specs.Reading.{read_event}
-use Rattle.log.specs.Leading.{Leading}
+use Rattle.event_log.specs.Leading.{Leading}
 
 -- the leading events of a log, n of them
 pub record Leads (bytes : List ℕ) (es : List Event) (n : ℕ) : Type 0 where

@@ -1,6 +1,6 @@
 // What the call answers, held to the reason by plain means, to a run, and to what the search says.
 use crate::plainly::Reason;
-use log::LogRead;
+use event_log::LogRead;
 use run::{Judged, Outcome};
 use swap_search::lists;
 use swap_search::truth::Truth;

@@ -58,7 +58,7 @@ fn on_log(log: &[u8], pattern: &[u8], s: Sample, counts: &mut [u64; COUNTS]) {
 }
 
 fn compared(pattern: &[u8], log: &[u8], t: Truth, counts: &mut [u64; COUNTS]) -> bool {
-    let read = log::read_log(log);
+    let read = event_log::read_log(log);
     let accepted = drawn::accepted(read);
     let present = t.present();
     tally::log(counts, accepted, present);

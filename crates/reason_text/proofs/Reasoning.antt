@@ -15,9 +15,9 @@ use Rattle.event.specs.Slots.{fits}
 use Rattle.event.proofs.Places.{places_length}
 use Rattle.event.proofs.Tests.{by_test}
 use Rattle.command.specs.Bytes.{Bytes}
-use Rattle.log.specs.Whole.{accepted, read_log, read_pattern}
-use Rattle.log.proofs.Numbering.{numbered_event}
-use Rattle.log.proofs.PatternRoundTrip.{pattern_iff}
+use Rattle.event_log.specs.Whole.{accepted, read_log, read_pattern}
+use Rattle.event_log.proofs.Numbering.{numbered_event}
+use Rattle.event_log.proofs.PatternRoundTrip.{pattern_iff}
 use Rattle.page.specs.Text.{decimal}
 use Rattle.page.specs.Lines.{longest, too_long_line}
 use Rattle.page.specs.Page.{room}

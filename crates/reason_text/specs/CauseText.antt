@@ -1,7 +1,7 @@
 -- The text of a cause, as the call for a reason gives it.
 use Rattle.std.specs.Prelude.{ℕ, ◌-◌, Bool, cond, List, [], ◌++◌, eqb, ltb, get_or}
 use Rattle.event.specs.Limits.{slots}
-use Rattle.log.specs.Number.{nth_event}
+use Rattle.event_log.specs.Number.{nth_event}
 use Rattle.page.specs.Text.{ascii, decimal}
 use Rattle.run.specs.declared.Judged.{Judged}
 use Rattle.listing_text.specs.Text.{slot_text}

@@ -2,7 +2,7 @@
 use Rattle.std.specs.Prelude.{ℕ, suc, ◌≤◌, ◌≡◌, List, ◌++◌, length}
 use Rattle.event.specs.declared.Event.{Event}
 use Rattle.event.specs.declared.Slot.{Slot}
-use Rattle.log.specs.Whole.{accepted, read_log, read_pattern}
+use Rattle.event_log.specs.Whole.{accepted, read_log, read_pattern}
 use Rattle.trace.specs.Before.{Numbered}
 use Rattle.trace.specs.Reason.{Obstacle, no_fit, last_fit}
 use Rattle.dependence.specs.Order.{Reason}

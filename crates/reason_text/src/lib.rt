@@ -57,7 +57,7 @@ fn cause_line(p: Page, log: &[u8], cause: Cause, events: [u16; event::SLOTS]) ->
             event,
             earlier,
         } => {
-            let e = log::event_numbered(log, event);
+            let e = event_log::event_numbered(log, event);
             let q = listing_text::slot_text(p, slot, event, e);
             way_line(q, event == slot_event(events, earlier), earlier)
         }

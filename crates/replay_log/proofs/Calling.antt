@@ -21,10 +21,10 @@ use Rattle.trace.proofs.Rows.{each_length, each_mem}
 use Rattle.trace.proofs.Numbers.{numbered_among}
 use Rattle.dependence.specs.Order.{IsCount, Named}
 use Rattle.command.specs.Bytes.{Bytes}
-use Rattle.log.specs.Whole.{Whole, read_log, read_pattern, accepted, refused, pattern_from, log_bytes}
-use Rattle.log.proofs.Leading.{few_events}
-use Rattle.log.proofs.LogRoundTrip.{log_calls}
-use Rattle.log.proofs.PatternRoundTrip.{pattern_iff}
+use Rattle.event_log.specs.Whole.{Whole, read_log, read_pattern, accepted, refused, pattern_from, log_bytes}
+use Rattle.event_log.proofs.Leading.{few_events}
+use Rattle.event_log.proofs.LogRoundTrip.{log_calls}
+use Rattle.event_log.proofs.PatternRoundTrip.{pattern_iff}
 use Rattle.session.specs.Answers.{Ruling, Refused, nothing, Given}
 use Rattle.session.specs.Meaning.{VerdictOf, log_refused, judged, RunOf, pattern_refused, over_log}
 use Rattle.run.specs.declared.Outcome.{Outcome}

@@ -10,8 +10,8 @@ use Rattle.event.specs.Slots.{fits}
 use Rattle.trace.specs.Swaps.{stay}
 use Rattle.trace.specs.Match.{Holds}
 use Rattle.command.specs.Bytes.{Bytes}
-use Rattle.log.specs.Whole.{read_log, read_pattern, accepted}
-use Rattle.log.proofs.LogRoundTrip.{log_read, log_iff}
+use Rattle.event_log.specs.Whole.{read_log, read_pattern, accepted}
+use Rattle.event_log.proofs.LogRoundTrip.{log_read, log_iff}
 use Rattle.dependence.specs.Order.{Named, HasMatch}
 use Rattle.session.specs.Answers.{Ruling}
 use Rattle.session.specs.Meaning.{VerdictOf}

@@ -3,7 +3,7 @@ use Rattle.std.specs.Prelude.{ℕ, ◌≤◌, ◌<◌, ◌≡◌, Bool, true, fa
 use Rattle.event.specs.declared.Event.{Event}
 use Rattle.event.specs.declared.Slot.{Slot}
 use Rattle.event.specs.Limits.{slots}
-use Rattle.log.specs.Whole.{accepted, read_log, read_pattern, log_bytes}
+use Rattle.event_log.specs.Whole.{accepted, read_log, read_pattern, log_bytes}
 use Rattle.session.specs.Answers.{refusal, no_ruling, nothing, log, Given}
 use Rattle.session.specs.Meaning.{RunOf}
 use Rattle.run.specs.declared.Judged.{Judged}

@@ -3,7 +3,7 @@ use Rattle.std.specs.Prelude.{ℕ, ◌≡◌, true, List, length}
 use Rattle.event.specs.declared.Event.{Event}
 use Rattle.event.specs.declared.Slot.{Slot}
 use Rattle.event.specs.Slots.{fits}
-use Rattle.log.specs.Whole.{read_log, accepted, log_bytes}
+use Rattle.event_log.specs.Whole.{read_log, accepted, log_bytes}
 use Rattle.trace.specs.Match.{Holds}
 use Rattle.dependence.specs.Order.{Reaches}
 use Rattle.session.specs.Answers.{nothing, Given}

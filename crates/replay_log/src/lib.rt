@@ -26,7 +26,7 @@ pub fn write(pattern: &[u8], log: &[u8], buffer: &mut [u8]) -> Replayed
     if short {
         return too_short();
     }
-    let read = log::read_pattern(pattern);
+    let read = event_log::read_pattern(pattern);
     let p = read.pattern;
     let length = replay_passes::write(log, count, numbers, p.size, buffer);
     Replayed { judged, length }

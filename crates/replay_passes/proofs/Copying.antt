@@ -30,7 +30,7 @@ use Rattle.command.proofs.Held.{was_taken}
 use Rattle.command.proofs.Inversion.{goes_on_lem}
 use Rattle.writer.specs.Writing.{written, refused, writing, has_room, put, buffer_after}
 use Rattle.writer.proofs.Buffers.{put_more, length_put}
-use Rattle.log.proofs.LogRoundTrip.{events_kind}
+use Rattle.event_log.proofs.LogRoundTrip.{events_kind}
 use Rattle.clock.specs.declared.Stamp.{Stamp}
 use Rattle.clock.specs.Clocks.{highest_count, up}
 use Rattle.passes.proofs.Passes.{seen_of, seen_le, counts_up}

@@ -18,10 +18,10 @@ use Rattle.command.specs.Commands.{closing}
 use Rattle.command.specs.Reading.{read_event}
 use Rattle.writer.specs.Writing.{put}
 use Rattle.writer.proofs.Buffers.{put_more, length_put}
-use Rattle.log.specs.Calls.{ReadCalls}
-use Rattle.log.specs.Whole.{log_bytes}
-use Rattle.log.proofs.RowBytes.{calls_iff}
-use Rattle.log.proofs.LogRoundTrip.{events_kind}
+use Rattle.event_log.specs.Calls.{ReadCalls}
+use Rattle.event_log.specs.Whole.{log_bytes}
+use Rattle.event_log.proofs.RowBytes.{calls_iff}
+use Rattle.event_log.proofs.LogRoundTrip.{events_kind}
 use Rattle.clock.specs.declared.Stamp.{Stamp}
 use Rattle.clock.specs.Clocks.{no_stamp, higher_of}
 use Rattle.clock.proofs.Entries.{heard_from_lem, heard_length}

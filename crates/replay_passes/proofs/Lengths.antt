@@ -11,7 +11,7 @@ use mathlib.Core.List.Permᴰ.{trans as perm-trans}
 use lib.ListN.{length, length-append}
 use Rattle.event.specs.declared.Event.{Event}
 use Rattle.command.specs.Commands.{event_bytes, Height, closing}
-use Rattle.log.specs.Whole.{row_bytes, log_bytes, Heights}
+use Rattle.event_log.specs.Whole.{row_bytes, log_bytes, Heights}
 use Rattle.replay_passes.specs.Copies.{commands}
 
 -- a log is its commands and the closing 00

@@ -17,8 +17,8 @@ use Rattle.command.specs.Reading.{Reading, command, closed, refused, event_at, d
 use Rattle.command.specs.contracts.EventRead.{the_type}
 use Rattle.command.proofs.Held.{was_taken, was_closed}
 use Rattle.command.proofs.Inversion.{Found, decode_found, goes_on_lem, not_closed}
-use Rattle.log.specs.Leading.{Leading}
-use Rattle.log.proofs.Leading.{calls_lead, Midway, past_it, past_to, within_limits_lem, not_absent}
+use Rattle.event_log.specs.Leading.{Leading}
+use Rattle.event_log.proofs.Leading.{calls_lead, Midway, past_it, past_to, within_limits_lem, not_absent}
 use Rattle.passes.specs.Passes.{Leads}
 use Rattle.replay_passes.specs.Copies.{ReadAs}
 

@@ -10,8 +10,8 @@ use Rattle.command.specs.Commands.{event_bytes}
 use Rattle.writer.specs.Writing.{has_room, put}
 use Rattle.command.specs.Bytes.{Bytes}
 use Rattle.command.specs.Reading.{read_event}
-use Rattle.log.specs.Calls.{ReadCalls}
-use Rattle.log.specs.Whole.{log_bytes}
+use Rattle.event_log.specs.Calls.{ReadCalls}
+use Rattle.event_log.specs.Whole.{log_bytes}
 use Rattle.clock.specs.declared.Stamp.{Stamp}
 use Rattle.replay_order.specs.Replay.{IsReplay}
 

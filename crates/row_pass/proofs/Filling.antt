@@ -13,10 +13,10 @@ use Rattle.event.specs.Limits.{events}
 use Rattle.rules.specs.State.{StateOf}
 use Rattle.rules.proofs.StateLaws.{clear}
 use Rattle.command.specs.Reading.{Reading, command, closed, refused as refused_at}
-use Rattle.log.specs.Whole.{accepted, refused, step_after, read_log, read_log_under}
-use Rattle.log.specs.Step.{taken_then, StepAfter}
-use Rattle.log.proofs.Rows as rows
-use Rattle.log.proofs.LogWalk.{Going, step_taken, step_onward}
+use Rattle.event_log.specs.Whole.{accepted, refused, step_after, read_log, read_log_under}
+use Rattle.event_log.specs.Step.{taken_then, StepAfter}
+use Rattle.event_log.proofs.Rows as rows
+use Rattle.event_log.proofs.LogWalk.{Going, step_taken, step_onward}
 use Rattle.row_batch.specs.Batch.{batch, events_of}
 use Rattle.row_pass.specs.declared.Filled.{Filled}
 use Rattle.row_pass.specs.declared.Stop.{Stop}

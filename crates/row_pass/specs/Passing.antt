@@ -4,7 +4,7 @@ use Rattle.event.specs.declared.Event.{Event}
 use Rattle.rules.specs.Accepted.{Accepted}
 use Rattle.rules.specs.State.{StateOf}
 use Rattle.command.specs.Reading.{command, closed, refused as refused_at}
-use Rattle.log.specs.Whole.{accepted, refused, step_after, read_log}
+use Rattle.event_log.specs.Whole.{accepted, refused, step_after, read_log}
 use Rattle.session.specs.declared.Session.{Session}
 use Rattle.session.specs.Model.{fresh_on, handed_all}
 use Rattle.row_batch.specs.Batch.{events_of}

@@ -3,12 +3,12 @@ ghost use Rattle.std.specs.Prelude.{◌≡◌, List, ◌≤◌, length};
 ghost use Rattle.event.specs.declared.Event.{Event};
 ghost use Rattle.event.specs.Limits.{events as event_limit};
 ghost use Rattle.rules.specs.State.{StateOf};
-ghost use Rattle.log.specs.Whole.{accepted, read_log};
+ghost use Rattle.event_log.specs.Whole.{accepted, read_log};
 ghost use Rattle.session_row.specs.Row.{most};
 ghost use Rattle.row_pass.specs.Passing.{filled_of, FilledFrom, EndsAs, PassedBy};
 
 use event::{Event, Operation};
-use log::Stepped;
+use event_log::Stepped;
 use row_batch::{BATCH, Batch};
 use session::Session;
 use session_row::PLACES;
@@ -93,7 +93,7 @@ fn fill(log: &[u8], from: usize, before: usize, held: [u8; rules::STATE]) -> Fil
     let mut state = held;
     let mut at = from;
     for k in 0..BATCH {
-        let found = log::step(log, at, &mut state, before + k);
+        let found = event_log::step(log, at, &mut state, before + k);
         let Stepped::Event { event, next } = found else {
             let Stepped::LogRefused { number, offset } = found else {
                 return stopped(events, k, Stop::End, state);

@@ -15,11 +15,11 @@ use Rattle.event.specs.declared.Slot.{Slot}
 use Rattle.event.specs.Limits.{slots as slot_limit}
 use Rattle.event.specs.Slots.{fits, no_event, no_slot}
 use Rattle.event.specs.Keys.{slot_keys}
-use Rattle.log.specs.declared.LogRead.{LogRead}
-use Rattle.log.specs.declared.LogRead.TheVariants as read
-use Rattle.log.specs.declared.Pattern.{Pattern}
-use Rattle.log.specs.Whole.{accepted, read_log, Passing, outcome_of, read_pattern, log_read_is}
-use Rattle.log.proofs.Answers.{told_accepted, told_refused}
+use Rattle.event_log.specs.declared.LogRead.{LogRead}
+use Rattle.event_log.specs.declared.LogRead.TheVariants as read
+use Rattle.event_log.specs.declared.Pattern.{Pattern}
+use Rattle.event_log.specs.Whole.{accepted, read_log, Passing, outcome_of, read_pattern, log_read_is}
+use Rattle.event_log.proofs.Answers.{told_accepted, told_refused}
 use Rattle.trace.specs.Match.{without}
 use Rattle.trace.proofs.First.{Tells, match, no_match, greatest, chosen_tells}
 use Rattle.trace.proofs.FirstScan.{join_snoc}

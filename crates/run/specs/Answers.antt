@@ -2,8 +2,8 @@
 use Rattle.std.specs.Prelude.{ℕ, zero, suc, max, Bool, true, false, cond, List, eqb, get_or, replicate}
 use Rattle.event.specs.Limits.{slots as slot_limit}
 use Rattle.session.specs.Answers.{refusal, nothing, pattern, log, Given}
-use Rattle.log.specs.declared.LogRead.{LogRead}
-use Rattle.log.specs.declared.LogRead.TheVariants as read
+use Rattle.event_log.specs.declared.LogRead.{LogRead}
+use Rattle.event_log.specs.declared.LogRead.TheVariants as read
 use Rattle.first.specs.declared.Search.{Search}
 use Rattle.slot_search.specs.declared.LogSearch.{LogSearch}
 use Rattle.run.specs.declared.Outcome.{Outcome}

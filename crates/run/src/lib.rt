@@ -5,7 +5,7 @@ ghost use Rattle.slot_search.specs.Patterns.{Usable};
 ghost use Rattle.session.specs.Meaning.{RunOn, RunOf};
 ghost use Rattle.run.specs.Answers.{judged_is, judged_after, judged_by, greatest_of};
 
-use log::{LogRead, Pattern, PatternAnswer};
+use event_log::{LogRead, Pattern, PatternAnswer};
 use slot_search::LogSearch;
 
 #[derive(Drop)]
@@ -26,7 +26,7 @@ pub struct Judged {
 pub fn run(pattern: &[u8], log: &[u8]) -> Judged
     ensures { RunOf pattern.now log.now (judged_is result) }
 {
-    let read = log::read_pattern(pattern);
+    let read = event_log::read_pattern(pattern);
     let answer = read.answer;
     let p = read.pattern;
     match answer {

@@ -1,6 +1,6 @@
 // A run and a session held to what the search found.
 use command::EventRead;
-use log::{LogRead, PatternAnswer};
+use event_log::{LogRead, PatternAnswer};
 use run::{Judged, Outcome};
 use session::{Answer, Found, Opened, Session, Verdict};
 use swap_search::lists;

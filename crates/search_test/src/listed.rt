@@ -2,7 +2,7 @@
 // and they are as many. Whether one of them holds the pattern is held to what a run says.
 use crate::tally::{COUNTS, LISTED};
 use crate::{compare, tally};
-use log::LogRead;
+use event_log::LogRead;
 use order_rows::PLACES;
 use orders_log::{Given, GivenRow};
 use run::Judged;

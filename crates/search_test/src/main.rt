@@ -10,7 +10,7 @@ mod replays;
 mod tally;
 mod threads;
 
-use log::LogRead;
+use event_log::LogRead;
 use run::Judged;
 use swap_search::samples::Sample;
 use swap_search::truth::Truth;
@@ -77,7 +77,7 @@ fn compared(
     t: Truth,
     counts: &mut [u64; COUNTS],
 ) {
-    let read = log::read_log(log);
+    let read = event_log::read_log(log);
     tally::log(counts, read, t);
     let judged = run::run(pattern, log);
     let agreed = agree(pattern, log, t, read, judged);

@@ -1,7 +1,7 @@
 // Every pair of event numbers of a drawn log asked of the order query, and held to a plain computation of the chain, both ways round.
 use crate::tally;
 use crate::tally::{COUNTS, PAIRS};
-use log::LogRead;
+use event_log::LogRead;
 use order_query::Order;
 use plain::Leading;
 use relation::Relation;
@@ -19,7 +19,7 @@ const FREE: u64 = 3;
 pub(crate) fn of(log: &[u8], l: Leading, counts: &mut [u64; COUNTS]) {
     let events = l.events;
     let before = plain::all_before(events);
-    let read = log::read_log(log);
+    let read = event_log::read_log(log);
     for k in 0..81 {
         let answer = answer_number(order_query::query(log, k / 9, k % 9));
         let right = answer == due(read, &before, k / 9, k % 9);

@@ -4,7 +4,7 @@ ghost use Rattle.std.specs.Prelude.{◌≤◌};
 use crate::grouped::SPACE;
 use crate::tally::{COUNTS, REPLAYS};
 use crate::{compare, grouped, tally};
-use log::LogRead;
+use event_log::LogRead;
 use plain::Leading;
 use run::{Judged, Outcome};
 use swap_search::orders::Question;
@@ -35,7 +35,7 @@ pub(crate) fn agree(
     if 60 < size {
         return false;
     }
-    let read = log::read_log(log);
+    let read = event_log::read_log(log);
     let matched = drawn::accepted(read) & t.present();
     let call = ask(pattern, log, size + size % 3);
     let short = ask(pattern, log, less(size));

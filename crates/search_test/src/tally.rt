@@ -1,6 +1,6 @@
 // What was seen: kinds of logs and patterns, matches and disagreements. The file stdin has the words for each count, a line each.
 use crate::{locks, threads};
-use log::LogRead;
+use event_log::LogRead;
 use plain::Leading;
 use swap_search::truth::Truth;
 use swap_search::{patterns, truth, words};

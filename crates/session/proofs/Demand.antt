@@ -11,9 +11,9 @@ use Rattle.event.specs.declared.Slot.{Slot}
 use Rattle.rules.specs.Accepted.{Accepted, AcceptedAfter, one_more, refusal_after, taken_after, taken_under, taken_from, taken_from_under}
 use Rattle.rules.proofs.AcceptedLists.{all_taken}
 use Rattle.command.specs.Bytes.{Bytes}
-use Rattle.log.specs.Whole.{Heights, accepted, log_bytes, read_log, read_pattern}
-use Rattle.log.proofs.Rows.{refused_not_accepted, one_list}
-use Rattle.log.proofs.LogRoundTrip.{log_read, log_iff}
+use Rattle.event_log.specs.Whole.{Heights, accepted, log_bytes, read_log, read_pattern}
+use Rattle.event_log.proofs.Rows.{refused_not_accepted, one_list}
+use Rattle.event_log.proofs.LogRoundTrip.{log_read, log_iff}
 use Rattle.trace.proofs.Lists.{same_test}
 use Rattle.trace.specs.Swaps.{Swap, here, later, stay, swap}
 use Rattle.dependence.specs.Dependence.{dependent}

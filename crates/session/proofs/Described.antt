@@ -20,8 +20,8 @@ use Rattle.rules.specs.Accepted.{refusal_after, taken_after, taken_under, Accept
 use Rattle.rules.specs.State as rules
 use Rattle.rules.proofs.StateLaws as rule_laws
 use Rattle.rules.proofs.AcceptedLists.{taken_iff}
-use Rattle.log.specs.Whole.{GoodPattern, no_slot_lem, one_slot, Whole, accepted, refused, blank, pattern_of, pattern_from, read_pattern}
-use Rattle.log.proofs.PatternRoundTrip.{pattern_iff}
+use Rattle.event_log.specs.Whole.{GoodPattern, no_slot_lem, one_slot, Whole, accepted, refused, blank, pattern_of, pattern_from, read_pattern}
+use Rattle.event_log.proofs.PatternRoundTrip.{pattern_iff}
 use Rattle.command.specs.Bytes.{Bytes}
 use Rattle.event.specs.Range.{range_refusal_under}
 use Rattle.trace.proofs.Matches.{empty_match, match_append, match_whole}

@@ -9,9 +9,9 @@ use Rattle.event.specs.declared.Slot.{Slot}
 use Rattle.event.specs.Limits.{threads, former_threads}
 use Rattle.rules.specs.Accepted.{refusal_under, taken_under, EachNamesBelow, none_named, one_named}
 use Rattle.rules.proofs.Limits.{refusal_alike, taken_alike, all_taken_alike}
-use Rattle.log.specs.Whole.{read_log_under, read_pattern_under, outcome_of}
-use Rattle.log.specs.Naming.{LogNamesBelow, PatternNamesBelow}
-use Rattle.log.proofs.Limits.{log_alike, pattern_alike}
+use Rattle.event_log.specs.Whole.{read_log_under, read_pattern_under, outcome_of}
+use Rattle.event_log.specs.Naming.{LogNamesBelow, PatternNamesBelow}
+use Rattle.event_log.proofs.Limits.{log_alike, pattern_alike}
 use Rattle.session.specs.declared.Opened.{Opened}
 use Rattle.session.specs.Answers.{refusal, Refusal, Given}
 use Rattle.session.specs.Meaning.{OpenedOn, RunOnUnder, log_refused, judged, RunOf, RunOfUnder, pattern_refused, over_log}

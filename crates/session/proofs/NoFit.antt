@@ -17,7 +17,7 @@ use Rattle.table.specs.Table.{found_in, numbers_in}
 use Rattle.table.specs.Keeps.{Keeps}
 use Rattle.table.proofs.Verdict.{found_match, offered_still}
 use Rattle.dependence.specs.Order.{HasMatch}
-use Rattle.log.specs.Whole.{read_pattern}
+use Rattle.event_log.specs.Whole.{read_pattern}
 use Rattle.session.specs.declared.Session.{Session}
 use Rattle.session.specs.declared.Opened.{Opened}
 use Rattle.session.specs.Answers.{refusal, answer_is, verdict_is}

@@ -17,8 +17,8 @@ use Rattle.trace.proofs.First as first
 use Rattle.dependence.specs.Dependence.{dependent}
 use Rattle.dependence.specs.Order.{HasMatch, IsCount, IsFirst}
 use Rattle.dependence.proofs.Dependent.{fit_one_slot}
-use Rattle.log.specs.Whole.{Whole, refused}
-use Rattle.log.proofs.Rows.{refused_not_accepted, one_list, one_refusal}
+use Rattle.event_log.specs.Whole.{Whole, refused}
+use Rattle.event_log.proofs.Rows.{refused_not_accepted, one_list, one_refusal}
 use Rattle.session.specs.Answers.{refusal, Ruling, Given}
 use Rattle.session.specs.Meaning.{VerdictOf, RunOn, log_refused, judged, RunOf, pattern_refused, over_log}
 

@@ -4,7 +4,7 @@ use Rattle.event.specs.declared.Event.{Event}
 use Rattle.event.specs.declared.Slot.{Slot}
 use Rattle.event.specs.Limits.{threads}
 use Rattle.rules.specs.Accepted.{Accepted, refusal_under, taken_under, taken_from_under}
-use Rattle.log.specs.Whole.{Heights, accepted, log_bytes, read_log, read_pattern}
+use Rattle.event_log.specs.Whole.{Heights, accepted, log_bytes, read_log, read_pattern}
 use Rattle.dependence.specs.Order.{Reaches}
 use Rattle.session.specs.declared.Session.{Session}
 use Rattle.session.specs.declared.Opened.{Opened}

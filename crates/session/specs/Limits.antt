@@ -2,7 +2,7 @@
 -- what is promised under that limit. Of a run `Meaning.RunOfUnder` says it.
 use Rattle.std.specs.Prelude.{ℕ, ◌≡◌, List, []}
 use Rattle.event.specs.declared.Event.{Event}
-use Rattle.log.specs.Whole.{outcome_of, pattern_answer_is, read_pattern_under}
+use Rattle.event_log.specs.Whole.{outcome_of, pattern_answer_is, read_pattern_under}
 use Rattle.session.specs.declared.Opened.{Opened}
 use Rattle.session.specs.Model.{slots_used}
 use Rattle.session.specs.Meaning.{VerdictOf}

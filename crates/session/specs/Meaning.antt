@@ -6,7 +6,7 @@ use Rattle.event.specs.Limits.{threads, slots}
 use Rattle.event.specs.Slots.{fits}
 use Rattle.rules.specs.Accepted.{Accepted, taken_after}
 use Rattle.rules.specs.State as rules
-use Rattle.log.specs.Whole.{GoodPattern, pattern_of, accepted, refused, read_log_under, read_pattern, read_pattern_under, outcome_of, pattern_answer_is}
+use Rattle.event_log.specs.Whole.{GoodPattern, pattern_of, accepted, refused, read_log_under, read_pattern, read_pattern_under, outcome_of, pattern_answer_is}
 use Rattle.clock.specs.Arrivals as clock
 use Rattle.table.specs.Keeps.{Keeps}
 use Rattle.dependence.specs.Order.{HasMatch, IsCount, Named, IsFirst}

@@ -4,8 +4,8 @@ use Rattle.event.specs.declared.Event.{Event}
 use Rattle.event.specs.declared.Slot.{Slot}
 use Rattle.event.specs.Slots.{fitting, threads_of}
 use Rattle.rules.specs.State.{state_size, refusal_by, state_after}
-use Rattle.log.specs.declared.Pattern.{Pattern}
-use Rattle.log.specs.Whole.{Whole, accepted, refused, blank}
+use Rattle.event_log.specs.declared.Pattern.{Pattern}
+use Rattle.event_log.specs.Whole.{Whole, accepted, refused, blank}
 use Rattle.clock.specs.Rows.{size as clock_size}
 use Rattle.clock.specs.Clocks.{stamp_by, clocks_after}
 use Rattle.table.specs.Table.{offered, fresh_table, found_in, numbers_in}

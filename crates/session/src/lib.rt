@@ -11,7 +11,7 @@ ghost use Rattle.session.specs.Model.{or_lone, fresh_on, kept_after, handed, ans
 ghost use Rattle.session.specs.Meaning.{OpenedOn, Describes, VerdictOf, taken_by};
 
 use event::Event;
-use log::{Pattern, PatternAnswer};
+use event_log::{Pattern, PatternAnswer};
 
 // The pattern, what is kept of the events taken, how many they are, and the count of the match, 0 without one.
 #[derive(Drop)]
@@ -93,7 +93,7 @@ impl Session {
     pub fn open(pattern: &[u8]) -> Opened
         ensures { OpenedOn pattern.now result }
     {
-        let read = log::read_pattern(pattern);
+        let read = event_log::read_pattern(pattern);
         let answer = read.answer;
         let p = read.pattern;
         let used = or_lone(p);

@@ -7,7 +7,7 @@ use borrow.Author.Tests.{le-leb}
 use Rattle.event.specs.declared.Event.{Event}
 use Rattle.event.specs.declared.Slot.{Slot}
 use Rattle.rules.specs.Accepted.{refusal_after, taken_after}
-use Rattle.log.specs.Whole.{read_pattern}
+use Rattle.event_log.specs.Whole.{read_pattern}
 use Rattle.session.specs.declared.Session.{Session}
 use Rattle.session.specs.declared.Opened.{Opened}
 use Rattle.session.specs.Answers.{Refusal}

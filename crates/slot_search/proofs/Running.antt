@@ -12,14 +12,14 @@ use Rattle.event.specs.Slots.{slot_of}
 use Rattle.rules.specs.State.{StateOf}
 use Rattle.event.specs.Keys.{slot_key}
 use Rattle.command.specs.Reading.{Reading, command, closed, refused as refused_at, read_event}
-use Rattle.log.specs.Whole.{outcome_of}
-use Rattle.log.specs.declared.LogRead.TheVariants.{Accepted, LogRefused}
-use Rattle.log.specs.Leading.{Leading}
-use Rattle.log.specs.Leading as leading
-use Rattle.log.proofs.Rows.{one_list, refused_not_accepted}
-use Rattle.log.proofs.Steps.{History}
-use Rattle.log.proofs.LogWalk as walk
-use Rattle.log.proofs.Leading.{in_limits, leads_on}
+use Rattle.event_log.specs.Whole.{outcome_of}
+use Rattle.event_log.specs.declared.LogRead.TheVariants.{Accepted, LogRefused}
+use Rattle.event_log.specs.Leading.{Leading}
+use Rattle.event_log.specs.Leading as leading
+use Rattle.event_log.proofs.Rows.{one_list, refused_not_accepted}
+use Rattle.event_log.proofs.Steps.{History}
+use Rattle.event_log.proofs.LogWalk as walk
+use Rattle.event_log.proofs.Leading.{in_limits, leads_on}
 use Rattle.clock.specs.declared.Stamp.{Stamp}
 use Rattle.clock.specs.Clocks.{stamp_by, clocks_after, no_stamp}
 use Rattle.clock.specs.Arrivals.{ClocksOf}

@@ -10,9 +10,9 @@ use Rattle.event.specs.Limits.{threads, slots as slot_limit}
 use Rattle.event.specs.Slots.{no_slot}
 use Rattle.event.proofs.InRange.{in_range}
 use Rattle.command.specs.Bytes.{Bytes}
-use Rattle.log.specs.Whole.{InLimits, no_slot_lem, one_slot, GoodPattern, blank, pattern_of, accepted, passed, outcome_of, pattern_from, read_pattern}
-use Rattle.log.proofs.Answers.{told_accepted}
-use Rattle.log.proofs.PatternRoundTrip.{pattern_iff}
+use Rattle.event_log.specs.Whole.{InLimits, no_slot_lem, one_slot, GoodPattern, blank, pattern_of, accepted, passed, outcome_of, pattern_from, read_pattern}
+use Rattle.event_log.proofs.Answers.{told_accepted}
+use Rattle.event_log.proofs.PatternRoundTrip.{pattern_iff}
 use Rattle.slot_search.specs.Patterns.{Usable}
 
 slots_low : (ss ts : List Slot) → InLimits ss → (j : ℕ) → j < length ss → (get_or (ss ++ ts) j no_slot).thread < threads

@@ -2,7 +2,7 @@
 use Rattle.std.specs.Prelude.{ℕ, ◌≤◌, ◌<◌, ◌≡◌, length, get_or}
 use Rattle.event.specs.Limits.{threads, slots as slot_limit}
 use Rattle.event.specs.Slots.{no_slot}
-use Rattle.log.specs.declared.Pattern.{Pattern}
+use Rattle.event_log.specs.declared.Pattern.{Pattern}
 
 pub record Usable (p : Pattern) : Type 0 where
   pub some : 0 < p.size

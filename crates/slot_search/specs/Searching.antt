@@ -3,7 +3,7 @@ use Rattle.std.specs.Prelude.{ℕ, ◌≤◌, ◌≡◌, List}
 use Rattle.event.specs.declared.Event.{Event}
 use Rattle.event.specs.Keys.{slot_keys}
 use Rattle.event.specs.declared.Slot.{Slot}
-use Rattle.log.specs.Whole.{accepted, refused, read_log, outcome_of, log_read_is}
+use Rattle.event_log.specs.Whole.{accepted, refused, read_log, outcome_of, log_read_is}
 use Rattle.first.specs.Search.{none_found}
 use Rattle.first.specs.Holding.{Settled}
 use Rattle.slot_search.specs.declared.LogSearch.{LogSearch}

@@ -1,13 +1,13 @@
 // A search through a whole log, for one slot of a pattern at a time: each is filled by the first event that can fill it.
 ghost use Rattle.std.specs.Prelude.{◌≡◌};
 ghost use Rattle.first.specs.Search.{none_found, fills_slot};
-ghost use Rattle.log.specs.declared.LogRead.TheVariants as LogRead;
+ghost use Rattle.event_log.specs.declared.LogRead.TheVariants as LogRead;
 ghost use Rattle.slot_search.specs.Patterns.{Usable};
 ghost use Rattle.slot_search.specs.Searching.{SearchedIn};
 
 use event::{Event, Slot};
 use first::Search;
-use log::{LogRead, Pattern, Stepped};
+use event_log::{LogRead, Pattern, Stepped};
 
 // What reading the log gives, and the search at its end; where the log is refused, a search that has found nothing.
 #[derive(Drop)]
@@ -31,7 +31,7 @@ pub fn search(p: Pattern, log: &[u8]) -> LogSearch
     let mut taken: usize = 0;
     let mut at: usize = 0;
     loop {
-        let found = log::step(log, at, &mut state, taken);
+        let found = event_log::step(log, at, &mut state, taken);
         let Stepped::Event { event, next } = found else {
             let Stepped::LogRefused { number, offset } = found else {
                 return LogSearch {

@@ -16,8 +16,8 @@ use Rattle.event.specs.Range.{range_refusal_under}
 use Rattle.event.specs.Slots.{fits, no_event}
 use Rattle.rules.specs.Accepted.{some, lock_of, refusal_under}
 use Rattle.command.specs.Reading.{decode, read_slot_under}
-use Rattle.log.specs.Whole.{Whole, accepted, refused, outcome_of, row_from, step_under, read_log, read_log_under, slot_under, read_pattern, read_pattern_under}
-use Rattle.log.proofs.PatternRoundTrip.{pattern_iff}
+use Rattle.event_log.specs.Whole.{Whole, accepted, refused, outcome_of, row_from, step_under, read_log, read_log_under, slot_under, read_pattern, read_pattern_under}
+use Rattle.event_log.proofs.PatternRoundTrip.{pattern_iff}
 use Rattle.trace.specs.Match.{smallest, without}
 use Rattle.trace.proofs.Before.{before}
 use Rattle.trace.proofs.Matches.{empty_match, match_iff, match_whole}

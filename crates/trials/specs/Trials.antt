@@ -5,7 +5,7 @@ use Rattle.event.specs.declared.Event.{Event}
 use Rattle.event.specs.declared.Slot.{Slot}
 use Rattle.event.specs.Limits.{former_threads}
 use Rattle.command.specs.Bytes.{Bytes}
-use Rattle.log.specs.Whole.{Passing, passed, accepted, outcome_of, read_log, read_log_under, read_pattern}
+use Rattle.event_log.specs.Whole.{Passing, passed, accepted, outcome_of, read_log, read_log_under, read_pattern}
 use Rattle.dependence.specs.Order.{HasMatch, IsCount, Named, IsFirst}
 use Rattle.page.specs.Text.{ascii}
 use Rattle.listing_text.specs.Text.{height_text, former_height_text}

@@ -1,10 +1,10 @@
 // Whole patterns: how many slots, or the refusal; the slots that are kept.
 use crate::commands;
 use event::Slot;
-use log::PatternAnswer;
+use event_log::PatternAnswer;
 
 pub(crate) fn read(bytes: &[u8]) {
-    let read = log::read_pattern(bytes);
+    let read = event_log::read_pattern(bytes);
     let answer = read.answer;
     show(answer);
 }
@@ -23,7 +23,7 @@ fn show(answer: PatternAnswer) {
 
 // The answer, and the pattern that comes with it: its size and its five places.
 pub(crate) fn kept(bytes: &[u8]) {
-    let read = log::read_pattern(bytes);
+    let read = event_log::read_pattern(bytes);
     let answer = read.answer;
     show(answer);
     let pattern = read.pattern;

@@ -1,7 +1,7 @@
 // Whole logs: how many events, or the refusal; logs and patterns copied command by command.
 use crate::{buffers, patterns};
 use command::{EventRead, SlotRead};
-use log::LogRead;
+use event_log::LogRead;
 use writer::Written;
 
 // A log, or a pattern.
@@ -14,7 +14,7 @@ pub(crate) fn read(tall: bool, bytes: &[u8]) {
 }
 
 fn read_log(bytes: &[u8]) {
-    match log::read_log(bytes) {
+    match event_log::read_log(bytes) {
         LogRead::Accepted { events } => {
             console::number(events as u64);
             console::text(b" events");

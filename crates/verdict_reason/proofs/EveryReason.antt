@@ -11,8 +11,8 @@ use Rattle.event.specs.Limits.{slots}
 use Rattle.event.specs.Places.{in_places}
 use Rattle.event.specs.Slots.{fits, no_event}
 use Rattle.event.proofs.Tests.{by_test}
-use Rattle.log.specs.Whole.{accepted, read_log}
-use Rattle.log.proofs.Rows.{one_list, refused_not_accepted}
+use Rattle.event_log.specs.Whole.{accepted, read_log}
+use Rattle.event_log.proofs.Rows.{one_list, refused_not_accepted}
 use Rattle.trace.specs.Reason.{Obstacle}
 use Rattle.trace.proofs.Reasons as trace
 use Rattle.dependence.specs.Dependence.{dependent}

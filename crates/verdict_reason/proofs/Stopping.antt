@@ -12,11 +12,11 @@ use Rattle.event.specs.declared.Slot.{Slot}
 use Rattle.event.specs.Limits.{slots as slot_limit}
 use Rattle.event.specs.Places.{in_places}
 use Rattle.event.specs.Slots.{fits, no_event, no_slot}
-use Rattle.log.specs.declared.Pattern.{Pattern}
-use Rattle.log.specs.declared.LogRead.TheVariants as read
-use Rattle.log.specs.Whole.{accepted, read_log, passed, outcome_of, log_read_is}
-use Rattle.log.proofs.Answers.{told_accepted}
-use Rattle.log.proofs.Leading.{accepted_leads}
+use Rattle.event_log.specs.declared.Pattern.{Pattern}
+use Rattle.event_log.specs.declared.LogRead.TheVariants as read
+use Rattle.event_log.specs.Whole.{accepted, read_log, passed, outcome_of, log_read_is}
+use Rattle.event_log.proofs.Answers.{told_accepted}
+use Rattle.event_log.proofs.Leading.{accepted_leads}
 use Rattle.trace.specs.Tuples.{Among}
 use Rattle.trace.proofs.First.{ChosenOf, StuckOf}
 use Rattle.trace.proofs.FirstArrivals.{chosen_among}

@@ -4,7 +4,7 @@ use Rattle.event.specs.declared.Event.{Event}
 use Rattle.event.specs.declared.Slot.{Slot}
 use Rattle.event.specs.Limits.{slots}
 use Rattle.event.specs.Places.{in_places}
-use Rattle.log.specs.Whole.{accepted, refused, read_log, read_pattern}
+use Rattle.event_log.specs.Whole.{accepted, refused, read_log, read_pattern}
 use Rattle.trace.specs.Reason.{Obstacle, no_fit, last_fit}
 use Rattle.dependence.specs.Order.{Reason}
 use Rattle.session.specs.Answers.{nothing, pattern, refusal, no_ruling, Given}

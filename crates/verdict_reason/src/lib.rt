@@ -11,7 +11,7 @@ ghost use Rattle.verdict_reason.specs.Causes.{Stopped, Causes, counts_at};
 
 use clock::Stamp;
 use event::Slot;
-use log::{LogRead, Pattern, PatternAnswer};
+use event_log::{LogRead, Pattern, PatternAnswer};
 use run::Judged;
 
 // What keeps a log from a match.
@@ -43,7 +43,7 @@ pub struct Reasoned {
 pub fn reason(pattern: &[u8], log: &[u8]) -> Reasoned
     ensures { ReasonOf pattern.now log.now (judged_is result.judged) result.cause result.events }
 {
-    let read = log::read_pattern(pattern);
+    let read = event_log::read_pattern(pattern);
     let answer = read.answer;
     let p = read.pattern;
     match answer {

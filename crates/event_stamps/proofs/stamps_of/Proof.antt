@@ -6,7 +6,7 @@ use lib.ListN.{length, length-replicate}
 use Rattle.event.specs.declared.Event.{Event}
 use Rattle.event.specs.Limits.{slots as slot_limit}
 use Rattle.command.specs.Reading.{event_read_is}
-use Rattle.log.proofs.Leading.{not_absent}
+use Rattle.event_log.proofs.Leading.{not_absent}
 use Rattle.clock.specs.declared.Stamp.{Stamp}
 use Rattle.clock.specs.Clocks.{no_stamp}
 use Rattle.passes.specs.Passes.{Leads}

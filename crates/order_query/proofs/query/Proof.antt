@@ -9,9 +9,9 @@ use Rattle.event.specs.Limits.{events}
 use Rattle.event.specs.Slots.{slot_of}
 use Rattle.event.proofs.InRange.{from_range}
 use Rattle.rules.proofs.StateLaws.{clear}
-use Rattle.log.specs.Step.{stepped_is}
-use Rattle.log.proofs.Steps.{the_end}
-use Rattle.log.proofs.LogWalk.{Going, start, at_end, broken, none, room, one_more, shorter}
+use Rattle.event_log.specs.Step.{stepped_is}
+use Rattle.event_log.proofs.Steps.{the_end}
+use Rattle.event_log.proofs.LogWalk.{Going, start, at_end, broken, none, room, one_more, shorter}
 use Rattle.clock.specs.Arrivals.{ClocksOf}
 use Rattle.order_query.specs.Query.{refused_log}
 use Rattle.order_query.proofs.Waiting.{Waits, none_passed, next, answers}

@@ -10,7 +10,7 @@ use Rattle.event.specs.declared.Event.{Event}
 use Rattle.event.specs.Slots.{no_event}
 use Rattle.event.specs.Places.{in_places}
 use Rattle.trace.specs.Tuples.{event_at}
-use Rattle.log.specs.Whole.{read_log, accepted}
+use Rattle.event_log.specs.Whole.{read_log, accepted}
 use Rattle.order_rows.specs.Rows.{order_places}
 use Rattle.orders_log.proofs.Answers.{events_step, event_is}
 use Rattle.orders_log.proofs.events_of.Statement.{statement}

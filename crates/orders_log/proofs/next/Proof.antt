@@ -3,7 +3,7 @@ use mathlib.Core.Path.{◌≡◌, sym, ap, ◌∙◌}
 use mathlib.Core.List.{List}
 use lib.ListN.{length}
 use borrow.Author.Rules.{rules}
-use Rattle.log.specs.Whole.{read_log, log_read_is}
+use Rattle.event_log.specs.Whole.{read_log, log_read_is}
 use Rattle.order_rows.specs.Rows.{order_places}
 use Rattle.orders_log.specs.declared.GivenRow.{GivenRow}
 use Rattle.orders_log.specs.OrderCalls.{NextGives, GivesSo}

@@ -6,7 +6,7 @@ use lib.ListN.{length}
 use Rattle.event.specs.declared.Event.{Event}
 use Rattle.command.specs.Reading.{event_read_is}
 use Rattle.clock.specs.Arrivals.{ClocksOf}
-use Rattle.log.proofs.Leading.{not_absent}
+use Rattle.event_log.proofs.Leading.{not_absent}
 use Rattle.passes.specs.Passes.{Leads}
 use Rattle.passes.proofs.Passes.{Followed, followed, still_ahead, follows, stamped}
 use borrow.Author.Rules.{rules}

@@ -1,6 +1,6 @@
 use mathlib.Core.Path.{refl, ap}
 use Rattle.command.specs.Bytes.{Bytes}
-use Rattle.log.specs.declared.Pattern.{Pattern}
+use Rattle.event_log.specs.declared.Pattern.{Pattern}
 use Rattle.replay_log.proofs.Calling.{nothing_written, few_slots, short_of_it, replay_written}
 use borrow.Author.Rules.{rules}
 use Rattle.replay_log.proofs.write.Statement.{statement}

@@ -6,8 +6,8 @@ use lib.ListN.{length, length-set}
 use borrow.Author.Rules.{rules}
 use Rattle.event.specs.declared.Event.{Event}
 use Rattle.rules.specs.State.{StateOf}
-use Rattle.log.specs.Step.{stepped_is}
-use Rattle.log.proofs.Steps.{the_end}
+use Rattle.event_log.specs.Step.{stepped_is}
+use Rattle.event_log.proofs.Steps.{the_end}
 use Rattle.row_batch.specs.Batch.{batch}
 use Rattle.row_pass.proofs.Filling.{Reading-on, started, made, next_event, ends, breaks, is_full}
 use Rattle.row_pass.proofs.fill.Statement.{statement}

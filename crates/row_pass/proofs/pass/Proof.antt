@@ -6,9 +6,9 @@ use lib.ListN.{length, get_or}
 use borrow.Author.Rules.{rules}
 use Rattle.event.specs.declared.Event.{Event}
 use Rattle.event.specs.Limits.{events}
-use Rattle.log.proofs.Rows.{one_list, refused_not_accepted}
-use Rattle.log.proofs.LogRoundTrip.{log_calls}
-use Rattle.log.proofs.LogWalk.{Going, start}
+use Rattle.event_log.proofs.Rows.{one_list, refused_not_accepted}
+use Rattle.event_log.proofs.LogRoundTrip.{log_calls}
+use Rattle.event_log.proofs.LogWalk.{Going, start}
 use Rattle.session.specs.Model.{handed_all}
 use Rattle.session_row.specs.Row.{most, places}
 use Rattle.row_pass.specs.declared.Stop.TheVariants.{More}

@@ -1,6 +1,6 @@
 use mathlib.Core.Path.{sym, ap, ◌∙◌}
 use Rattle.command.specs.Bytes.{Bytes}
-use Rattle.log.specs.Whole.{pattern_answer_is}
+use Rattle.event_log.specs.Whole.{pattern_answer_is}
 use Rattle.session.specs.Meaning.{RunOn, over_log}
 use Rattle.slot_search.proofs.Usable.{accepted_usable, accepted_slots}
 use Rattle.run.specs.Answers.{judged_is}

@@ -8,9 +8,9 @@ use Rattle.event.specs.Limits.{slots as slot_limit}
 use Rattle.event.specs.Slots.{slot_of}
 use Rattle.event.specs.Keys.{slot_key}
 use Rattle.command.proofs.Inversion.{decode_found}
-use Rattle.log.specs.Step.{stepped_is}
-use Rattle.log.proofs.Steps.{the_end}
-use Rattle.log.proofs.LogWalk.{decoded, room, shorter}
+use Rattle.event_log.specs.Step.{stepped_is}
+use Rattle.event_log.proofs.Steps.{the_end}
+use Rattle.event_log.proofs.LogWalk.{decoded, room, shorter}
 use Rattle.passes.specs.Passes.{SlotsOf}
 use Rattle.passes.proofs.Noting.{none_last}
 use Rattle.first.proofs.Filling.{no_numbers}

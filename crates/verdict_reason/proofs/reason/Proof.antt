@@ -1,7 +1,7 @@
 use mathlib.Core.Path.{sym, ap, ◌∙◌}
 use Rattle.command.specs.Bytes.{Bytes}
-use Rattle.log.specs.Whole.{read_pattern, pattern_answer_is}
-use Rattle.log.proofs.Answers.{told_refused}
+use Rattle.event_log.specs.Whole.{read_pattern, pattern_answer_is}
+use Rattle.event_log.proofs.Answers.{told_refused}
 use Rattle.run.specs.Answers.{judged_is}
 use Rattle.slot_search.proofs.Usable.{accepted_usable, accepted_slots}
 use Rattle.verdict_reason.specs.Reasons.{ReasonOn, pattern_refused, over_log}

@@ -1,6 +1,6 @@
 use Rattle.command.specs.Bytes.{Bytes}
 use mathlib.Core.Path.{ap, ◌∙◌}
-use Rattle.log.specs.Whole.{read_pattern}
+use Rattle.event_log.specs.Whole.{read_pattern}
 use Rattle.session.specs.Model.{slots_used, or_lone, fresh_on}
 use Rattle.session.proofs.Described.{fresh_described, used_good, used_pattern}
 use borrow.Author.Rules.{rules}
