@@ -1,4 +1,6 @@
 // The numbers that a program is given as arguments.
+#![tactic(auto)]
+
 ghost use Rattle.std.specs.Prelude.{◌+◌, ◌-◌, ◌*◌, ◌≡◌};
 ghost use Rattle.arguments.specs.Numerals.{Extends, TakesFigure, NumberGiven, argument_is, PairGiven, pair_is};
 
@@ -8,14 +10,14 @@ const FIGURES: usize = 20;
 const HIGHEST: u64 = 18446744073709551615;
 
 // What an argument is: a number, or none.
-#[derive(Drop)]
+#[derive(Clone, Copy)]
 pub enum Argument {
     Number { value: u64 },
     NoNumber,
 }
 
 // What a program's arguments are: two numbers, or not that.
-#[derive(Drop)]
+#[derive(Clone, Copy)]
 pub enum Pair {
     Numbers { first: u64, second: u64 },
     NoNumbers,

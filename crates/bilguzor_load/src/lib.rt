@@ -1,4 +1,6 @@
 // The function that programs in C and Rust call to make a load: a library of its own, so that the others are compiled as if it were not there.
+#![tactic(auto)]
+
 ghost use Rattle.std.specs.Prelude.{◌≡◌};
 ghost use Rattle.load_log.specs.Load.{loading, loaded};
 ghost use Rattle.bilguzor_load.specs.LoadNumbers.{load_numbers};
@@ -7,7 +9,7 @@ use writer::Written;
 
 // What became of a load: number 0 where it is written, and how many bytes it has.
 #[repr(C)]
-#[derive(Drop)]
+#[derive(Clone, Copy)]
 pub struct Load {
     pub number: u8,
     pub offset: usize,

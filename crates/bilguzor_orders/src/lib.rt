@@ -1,5 +1,7 @@
 // The functions that programs in C and Rust call to go through all orders of a short log: a library of its own, so that the others are compiled as if it
 // were not there.
+#![tactic(auto)]
+
 ghost use Rattle.std.specs.Prelude.{◌≡◌};
 ghost use Rattle.orders_log.specs.OrderCalls.{FirstGives, NextGives, SaysSo};
 ghost use Rattle.bilguzor_orders.specs.OrderNumbers.{order_numbers, case_numbers};
@@ -18,7 +20,7 @@ pub const LAST: u8 = 10;
 
 // An order of a log: the kind, the refusal's number, the event numbers, the refusal's offset.
 #[repr(C)]
-#[derive(Drop)]
+#[derive(Clone, Copy)]
 pub struct OrderRow {
     pub kind: u8,
     pub number: u8,

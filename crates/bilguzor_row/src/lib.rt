@@ -1,4 +1,6 @@
 // The function that programs in C and Rust call with a row of sessions in parts: a library of its own, so that the others are compiled as if it were not there.
+#![tactic(auto)]
+
 ghost use Rattle.std.specs.Prelude.{◌≡◌, ◌≤◌, ◌<◌};
 ghost use Rattle.session_row.specs.Row.{most, RowTaken};
 ghost use Rattle.bilguzor_row.specs.Rows.{handed_numbers, alone_in, report_is, turned_in, report_of, long_report};
@@ -8,7 +10,7 @@ use session_row::Tally;
 
 // An event in numbers, whatever they are.
 #[repr(C)]
-#[derive(Drop)]
+#[derive(Clone, Copy)]
 pub struct EventNumbers {
     pub thread: u32,
     pub operation: u32,
@@ -19,7 +21,7 @@ pub struct EventNumbers {
 // What became of an event in a row: how many sessions refused it, the lowest place, from 1, that did, and the number of its refusal; or 18 where the row
 // is too long.
 #[repr(C)]
-#[derive(Drop)]
+#[derive(Clone, Copy)]
 pub struct RowReport {
     pub number: u8,
     pub offset: usize,
@@ -27,7 +29,7 @@ pub struct RowReport {
     pub place: usize,
 }
 
-#[derive(Drop)]
+#[derive(Clone, Copy)]
 struct TurnedParts {
     tally: Tally,
     session: Parts,

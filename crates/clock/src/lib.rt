@@ -1,4 +1,6 @@
 // Vector clocks, updated in place as the events of a log arrive: each event is given its stamp.
+#![tactic(auto)]
+
 ghost use Rattle.std.specs.Prelude.{◌≡◌, cond, List, [], ◌+◌, ◌≤◌, ◌<◌, max, length, replicate};
 ghost use Rattle.event.specs.declared.Event.{Event};
 ghost use Rattle.event.specs.declared.Operation.TheVariants.{Mark};
@@ -28,13 +30,13 @@ pub const CLOCKS: usize = (FIRST_LOCK + event::LOCKS as usize) * THREADS;
 const HIGHEST: u16 = 65535;
 
 // For each thread, how many of its events come before the stamped one or are it.
-#[derive(Drop)]
+#[derive(Clone, Copy)]
 pub struct Stamp {
     pub at: [u16; THREADS],
 }
 
 // Where the rows start that an event hears and tells beside its own; its own again where there is none.
-#[derive(Drop)]
+#[derive(Clone, Copy)]
 struct Rows {
     first: usize,
     second: usize,

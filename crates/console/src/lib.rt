@@ -1,5 +1,7 @@
 // What test programs share: what they print, and how they look at bytes.
 // Used by test programs only: proved safe; what they print is compared with stored output.
+#![tactic(auto)]
+
 ghost use Rattle.std.specs.Prelude.{◌≡◌, true, ℕ, ◌≤◌, ◌<◌, length, get_or, take};
 
 pub fn text(s: &[u8]) {

@@ -1,4 +1,6 @@
 // Which events of a log are dependent, and what vector clocks go by: definitions in specs/, their laws in proofs/; and dependence decided.
+#![tactic(auto)]
+
 ghost use Rattle.std.specs.Prelude.{◌≡◌, ◌&&◌, ◌||◌, ℕ, eqb};
 ghost use Rattle.std.proofs.Math.Option.{Option, some};
 ghost use Rattle.dependence.specs.Dependence.{variable, lock, named, is_write, same, dependent};

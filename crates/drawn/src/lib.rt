@@ -1,5 +1,7 @@
 // Small logs drawn by number.
 // Used by test programs only.
+#![tactic(auto)]
+
 ghost use Rattle.std.specs.Prelude.{◌≡◌, ◌≤◌, length};
 ghost use Rattle.drawn.specs.Drawing.{is_accepted, place_after};
 
@@ -8,7 +10,7 @@ use event_log::LogRead;
 use writer::Written;
 
 // A log under way: the place after it, and the last number drawn.
-#[derive(Drop)]
+#[derive(Clone, Copy)]
 pub struct Draft {
     pub at: usize,
     pub drawn: u32,
@@ -21,7 +23,7 @@ const LAST_VARIABLE: u8 = event::VARIABLES - 1;
 const LAST_LOCK: u8 = event::LOCKS - 1;
 
 // How a log is drawn: how often an event is drawn anew, whether numbers are the highest, among how many threads, and its mix.
-#[derive(Drop)]
+#[derive(Clone, Copy)]
 struct Manner {
     tries: u32,
     high: bool,

@@ -1,4 +1,6 @@
 // An event in plain numbers, as programs in C hand it over, and slots in numbers: which of them have an event's number.
+#![tactic(auto)]
+
 ghost use Rattle.std.specs.Prelude.{◌≡◌, ◌↔◌, true, ℕ, ◌≤◌, ◌<◌, get_or};
 ghost use Rattle.event.specs.Limits.{slots as slot_limit};
 ghost use Rattle.command.specs.Reading.{operation_of};

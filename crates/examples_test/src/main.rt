@@ -1,6 +1,8 @@
 // Lists each example folder that its arguments name, and says whether the text is the one in the folder's file `printed`, and with reasons the one in
 // `reasoned` where there is no match; the same of folders with many patterns; whether order queries of some of them print what they should; and whether a
 // file that is saved, and a replay, are read again as they should be.
+#![tactic(auto)]
+
 use arguments::Pair;
 use writer::Written;
 

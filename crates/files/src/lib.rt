@@ -1,6 +1,8 @@
 // Files by their names, for the programs: a folder's two files read and listed, or why they have no match; an order query of its log; a text printed; a file
 // written whole; a replay and a load saved.
 // What the system reads and writes is assumed and not proved.
+#![tactic(auto)]
+
 ghost use Rattle.std.specs.Prelude.{ℕ, ◌≤◌, ◌≡◌, false, length, pos};
 ghost use Rattle.io.specs.Counts.{IsPrefixLen};
 ghost use Rattle.listing_text.specs.Listing.{Listing};
@@ -15,7 +17,7 @@ use run::Outcome;
 use writer::Written;
 
 // How many bytes of a folder's two files were read.
-#[derive(Drop)]
+#[derive(Clone, Copy)]
 pub struct Sizes {
     pub pattern: usize,
     pub log: usize,

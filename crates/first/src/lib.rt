@@ -1,4 +1,6 @@
 // The first example: the slots of a pattern are filled one after another by the events of a log, each by the first event that can fill it.
+#![tactic(auto)]
+
 ghost use Rattle.std.specs.Prelude.{◌≡◌, true, false, List, ℕ, ◌≤◌, ◌<◌};
 ghost use Rattle.event.specs.declared.Event.{Event};
 ghost use Rattle.event.specs.Limits.{slots as slot_limit, events};
@@ -14,7 +16,7 @@ const NO_KEY: u16 = 255;
 
 // How many slots have found their event, these events' numbers, and their stamps joined, so far as slots are left. The key of the slot
 // looked for, that of no slot where none is; and whether the clocks run: from the first slot found to the last but one.
-#[derive(Drop)]
+#[derive(Clone, Copy)]
 pub struct Search {
     pub found: usize,
     pub want: u16,

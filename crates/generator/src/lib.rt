@@ -1,4 +1,6 @@
 // The generator of loads: the step from one state to the next, and the event in a state's bits.
+#![tactic(auto)]
+
 ghost use Rattle.std.specs.Prelude.{◌≡◌, ◌*◌, ◌%◌, ◌^◌};
 ghost use Rattle.generator.specs.Rule.{next_state, height_in, event_in};
 

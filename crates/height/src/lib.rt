@@ -1,9 +1,11 @@
 // Heights in metres to one decimal: rounding apart from printing, the sign apart from the figures.
+#![tactic(auto)]
+
 ghost use Rattle.std.specs.Prelude.{◌/◌, ◌%◌, ◌≡◌, nat_abs};
 ghost use Rattle.height.specs.Rounding.{is_half, tenths_of, former_tenths_of, metres_of};
 
 // The sign, the whole metres and the tenth of a rounded height.
-#[derive(Drop)]
+#[derive(Clone, Copy)]
 pub struct Metres {
     pub below: bool,
     pub whole: u32,

@@ -1,4 +1,6 @@
 // Every height from -1,000 to 1,000 mm, and those at both ends of an i32, against a plain table: how many heights of each row the listing prints as the row says.
+#![tactic(auto)]
+
 use event::{Event, Operation};
 
 // How many heights are tried from each start.

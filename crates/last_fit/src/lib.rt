@@ -1,4 +1,6 @@
 // The last event of a log that fits a slot, and its place in its thread, by one pass over the log.
+#![tactic(auto)]
+
 ghost use Rattle.std.specs.Prelude.{◌≡◌, cond, List};
 ghost use Rattle.event.specs.declared.Event.{Event};
 ghost use Rattle.passes.specs.Passes.{Leads};
@@ -8,7 +10,7 @@ use command::EventRead;
 use event::Slot;
 
 // The number of an event, and its place among the events of its thread; 0 and 0 where there is none.
-#[derive(Drop)]
+#[derive(Clone, Copy)]
 pub struct PlacedEvent {
     pub number: usize,
     pub place: u16,

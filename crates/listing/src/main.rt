@@ -1,4 +1,6 @@
 // Prints the listing of pattern.bin and log.bin, read in the folder where it is run.
+#![tactic(auto)]
+
 fn main() {
     let mut page = [0u8; page::ROOM];
     let written = files::list(b".", &mut page);

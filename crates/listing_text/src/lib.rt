@@ -1,4 +1,6 @@
 // The listing: a pattern and a log judged, and the verdict as text in a lent buffer.
+#![tactic(auto)]
+
 ghost use Rattle.std.specs.Prelude.{◌≡◌, cond, []};
 ghost use Rattle.page.specs.Text.{ascii};
 ghost use Rattle.page.specs.Page.{empty_page, onto, Adds};

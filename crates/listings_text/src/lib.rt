@@ -1,4 +1,6 @@
 // Many patterns and one log, gone through once: a line for each pattern, as text in a lent buffer.
+#![tactic(auto)]
+
 ghost use Rattle.std.specs.Prelude.{◌≡◌, List, ◌∷◌, [], ◌++◌, suc, ◌<◌, ◌≤◌, length};
 ghost use Rattle.page.specs.Page.{room, empty_page, onto, Adds, PutIn};
 ghost use Rattle.session.specs.Model.{verdict_of};
@@ -18,7 +20,7 @@ use writer::Written;
 pub const FILES: usize = session_row::MOST;
 
 // What was found of a pattern file before the log: it can't be opened, is too long or refused, or its pattern is looked for.
-#[derive(Drop)]
+#[derive(Clone, Copy)]
 pub enum Finding {
     Absent,
     TooLong,
@@ -26,13 +28,13 @@ pub enum Finding {
     Sought,
 }
 
-#[derive(Drop)]
+#[derive(Clone, Copy)]
 pub struct Entry {
     pub finding: Finding,
 }
 
 // What is known of each pattern file: what was found of it, and the session on its pattern. Those from `used` on are looked for by none.
-#[derive(Drop)]
+#[derive(Clone, Copy)]
 pub struct Watched {
     pub entries: [Entry; FILES],
     pub sessions: [Session; PLACES],

@@ -1,4 +1,6 @@
 // Writes load.bin, the load of a seed and a count, in the folder where it is run, and prints its length. Seed and count are its two arguments.
+#![tactic(auto)]
+
 use load_text::Made;
 
 // What is printed says that the file is there, so a file that can't be written leaves nothing to print.

@@ -1,4 +1,6 @@
 // The load of a seed and a count: a log that any machine can make again, in a lent buffer.
+#![tactic(auto)]
+
 ghost use Rattle.std.specs.Prelude.{◌≤◌, ◌≡◌, length};
 ghost use Rattle.event.specs.Limits.{events};
 ghost use Rattle.writer.specs.Writing.{written, written_is, put};

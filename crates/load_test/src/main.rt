@@ -1,5 +1,7 @@
 // Loads held to stored logs, which were made by other means from the words of Note 11; what is refused, 22 and 15, on both sides of their limits, with the
 // buffer as it was; and loads saved as the program `load` saves them.
+#![tactic(auto)]
+
 use arguments::Pair;
 use event_log::LogRead;
 use writer::Written;

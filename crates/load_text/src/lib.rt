@@ -1,4 +1,6 @@
 // What the program `load` makes of its arguments, and the line that it prints, as text in a lent buffer.
+#![tactic(auto)]
+
 ghost use Rattle.std.specs.Prelude.{◌≡◌, List, ℕ};
 ghost use Rattle.std.proofs.Math.Option.{some};
 ghost use Rattle.arguments.specs.Numerals.{pair_is};
@@ -14,7 +16,7 @@ use writer::Written;
 const HIGHEST_SEED: u64 = 4294967295;
 
 // What was made: a log at the start of its space, so many bytes long; or it was refused; or the arguments are no seed and count.
-#[derive(Drop)]
+#[derive(Clone, Copy)]
 pub enum Made {
     Log { size: usize },
     Refused { number: u8, offset: usize },

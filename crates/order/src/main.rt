@@ -1,4 +1,6 @@
 // Prints how one event of log.bin, read in the folder where it is run, stands to another. Their numbers are its two arguments.
+#![tactic(auto)]
+
 fn main() {
     let pair = arguments::given_pair();
     let mut page = [0u8; page::ROOM];

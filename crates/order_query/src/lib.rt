@@ -1,4 +1,6 @@
 // The order query: how one event of a log stands to another.
+#![tactic(auto)]
+
 ghost use Rattle.std.specs.Prelude.{◌≡◌};
 ghost use Rattle.order_query.specs.Query.{Answers, order_is};
 ghost use Rattle.order_query.specs.Awaiting.{not_yet, met, is_number, answer_at};
@@ -7,7 +9,7 @@ use clock::Stamp;
 use event_log::Stepped;
 use relation::{Relation, StampedEvent};
 
-#[derive(Drop)]
+#[derive(Clone, Copy)]
 pub enum Order {
     Related { relation: Relation },
     LogRefused { number: u8, offset: usize },
@@ -15,7 +17,7 @@ pub enum Order {
 }
 
 // An event that is waited for by its number; what is known of it once it has come.
-#[derive(Drop)]
+#[derive(Clone, Copy)]
 struct Awaited {
     number: usize,
     event: StampedEvent,

@@ -1,4 +1,6 @@
 // The orders of at most eight events as lists of their numbers: the first, the one after a given one, and whether a list is one.
+#![tactic(auto)]
+
 ghost use Rattle.std.specs.Prelude.{◌+◌, ◌≤◌, ◌<◌, ◌≡◌, true, ◌&&◌, ◌∷◌, ◌++◌, ltb, length, get_or, take, drop};
 ghost use Rattle.std.proofs.Math.Option.{some};
 ghost use Rattle.event.specs.Slots.{no_event};
@@ -105,7 +107,7 @@ fn raised_to(events: [Event; PLACES], order: &[u8], from: usize) -> u8
 }
 
 // A row of places that is being filled, and the next place.
-#[derive(Drop)]
+#[derive(Clone, Copy)]
 struct Filling {
     row: [u8; PLACES],
     at: usize,
@@ -168,7 +170,7 @@ fn refilled(order: &[u8], from: usize, z: u8, start: Filling) -> Filling
 }
 
 // The order after a given one, 0 beyond its numbers; or that there is none, and then all are 0.
-#[derive(Drop)]
+#[derive(Clone, Copy)]
 pub struct NextRow {
     pub row: [u8; PLACES],
     pub found: bool,

@@ -1,4 +1,6 @@
 // What the program `order` prints, as text in a lent buffer: the answer of an order query, or the program's usage.
+#![tactic(auto)]
+
 ghost use Rattle.std.specs.Prelude.{◌≡◌};
 ghost use Rattle.std.proofs.Math.Option.{some};
 ghost use Rattle.arguments.specs.Numerals.{pair_is};

@@ -1,4 +1,6 @@
 // Prints every order of log.bin, read in the folder where it is run, first to last, a line each.
+#![tactic(auto)]
+
 ghost use Rattle.std.specs.Prelude.{◌≡◌, true};
 ghost use Rattle.files.specs.Listed.{InPage};
 ghost use Rattle.orders_log.specs.declared.Given.TheVariants.{Order};

@@ -1,4 +1,6 @@
 // All orders of a short log, one after another: the first, and the one after a given one.
+#![tactic(auto)]
+
 ghost use Rattle.std.specs.Prelude.{◌≡◌, ◌↔◌, true, List, ℕ, ◌-◌, ◌≤◌, length, take, drop, replicate};
 ghost use Rattle.std.proofs.Math.Option.{Option};
 ghost use Rattle.event.specs.declared.Event.{Event};
@@ -14,7 +16,7 @@ use event_log::LogRead;
 use order_rows::{NextRow, PLACES};
 
 // What a call gives: an order; that the given one was the last; or a refusal, of the log or of what is asked of it.
-#[derive(Drop)]
+#[derive(Clone, Copy)]
 pub enum Given {
     Order,
     Last,
@@ -23,7 +25,7 @@ pub enum Given {
 }
 
 // The same with the order's event numbers: 0 at the places beyond the log's events, and at all places where no order is given.
-#[derive(Drop)]
+#[derive(Clone, Copy)]
 pub struct GivenRow {
     pub given: Given,
     pub row: [u8; PLACES],

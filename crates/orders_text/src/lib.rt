@@ -1,4 +1,6 @@
 // What the program `orders` prints, as text in a lent buffer: a line for each order that is given, or why there is none.
+#![tactic(auto)]
+
 ghost use Rattle.std.specs.Prelude.{◌≡◌, List, ℕ};
 ghost use Rattle.page.specs.Lines.{too_long_line};
 ghost use Rattle.page.specs.Page.{empty_page, onto, PutIn};
@@ -11,7 +13,7 @@ use page::Page;
 use writer::Written;
 
 // The text of the first call, and what it gave.
-#[derive(Drop)]
+#[derive(Clone, Copy)]
 pub struct Begun {
     pub written: Written,
     pub given: GivenRow,

@@ -1,4 +1,6 @@
 // Text under way on a page of bytes: words, numbers in decimal, and the lines that several programs print.
+#![tactic(auto)]
+
 ghost use Rattle.std.specs.Prelude.{◌≡◌};
 ghost use Rattle.writer.specs.Writing.{written_is, writing, buffer_after};
 ghost use Rattle.page.specs.Text.{figures as figures_of, decimal};
@@ -17,7 +19,7 @@ pub const SPACE: usize = LONGEST + 1;
 pub const ROOM: usize = 1024;
 
 // The text under way: its bytes, and how many they are.
-#[derive(Drop)]
+#[derive(Clone, Copy)]
 pub struct Page {
     pub bytes: [u8; ROOM],
     pub size: usize,

@@ -1,4 +1,6 @@
 // Passes over the leading events of a log: the clocks that follow each event, the last places of events by their keys, and what a pass from the start finds.
+#![tactic(auto)]
+
 ghost use Rattle.std.specs.Prelude.{◌≡◌, cond, List, ℕ, ◌≤◌};
 ghost use Rattle.event.specs.declared.Event.{Event};
 ghost use Rattle.event.specs.Slots.{fits};

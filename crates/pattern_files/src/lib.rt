@@ -1,5 +1,7 @@
 // For the program `listings`: a folder's pattern01.bin to pattern16.bin and its log, read and listed.
 // What the system reads is assumed and not proved.
+#![tactic(auto)]
+
 ghost use Rattle.std.specs.Prelude.{suc, ◌+◌, ◌<◌, ◌≡◌, ◌++◌};
 ghost use Rattle.page.specs.Text.{ascii};
 ghost use Rattle.session_row.specs.Row.{most};

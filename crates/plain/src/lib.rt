@@ -1,5 +1,7 @@
 // The order of a log of at most eight events, computed from document 01's words: dependent pairs, and chains of them rising in the log.
 // Used by test programs only.
+#![tactic(auto)]
+
 ghost use Rattle.std.specs.Prelude.{◌≡◌, true, cond, ◌||◌, eqb, ◌+◌, ◌*◌, ◌<◌, ◌≤◌};
 ghost use Rattle.plain.specs.Numbers.{kind_in, thread_in, object_in, number_of};
 ghost use Rattle.plain.specs.Chains.{of_kinds, same_variable_one_write, same_lock, names_thread_of, is_thread_of, dependent, dependent_at, entry, is_at, holds_to, links, reaches_to, column_to, columns_to};
@@ -25,7 +27,7 @@ pub const JOIN: u32 = 6;
 pub const MARK: u32 = 7;
 
 // The leading events of a log, `count` of them, each as one number.
-#[derive(Drop)]
+#[derive(Clone, Copy)]
 pub struct Leading {
     pub events: [u32; MOST],
     pub count: usize,

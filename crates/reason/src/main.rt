@@ -1,4 +1,6 @@
 // Prints the listing of pattern.bin and log.bin, read in the folder where it is run, and where there is no match why.
+#![tactic(auto)]
+
 fn main() {
     if 1 < os::arg_count() {
         files::print(b"reason", b"usage: reason\n");

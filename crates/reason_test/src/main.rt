@@ -1,4 +1,6 @@
 // Holds reasons, and what makes them suffice, to plain means and to a plain search through all orders of many small logs, and prints how many were compared.
+#![tactic(auto)]
+
 mod answers;
 mod least;
 mod plainly;

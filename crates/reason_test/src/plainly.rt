@@ -5,7 +5,7 @@ use swap_search::{lists, truth};
 
 // The slot; how many are before it; the last event that fits it, and the lowest slot whose event that one comes before or is; the events of the slots before.
 // 0 where there is none.
-#[derive(Drop)]
+#[derive(Clone, Copy)]
 pub struct Reason {
     pub slot: usize,
     pub before: usize,

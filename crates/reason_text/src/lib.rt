@@ -1,4 +1,6 @@
 // What the program `reason` prints, as text in a lent buffer: the listing, and under `no match` why there is none.
+#![tactic(auto)]
+
 ghost use Rattle.std.specs.Prelude.{◌≡◌, length};
 ghost use Rattle.event.specs.Limits.{slots};
 ghost use Rattle.page.specs.Page.{empty_page, onto, Adds, PutIn};

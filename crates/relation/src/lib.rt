@@ -1,4 +1,6 @@
 // How two stamped events of a log stand to each other: same, before, after or free.
+#![tactic(auto)]
+
 ghost use Rattle.std.specs.Prelude.{ℕ, ◌≡◌, List};
 ghost use Rattle.event.specs.declared.Event.{Event};
 ghost use Rattle.relation.specs.Relation.{IsStamped, Relates};
@@ -7,7 +9,7 @@ ghost use Rattle.relation.specs.Compared.{one_event, comes_before, compared};
 use clock::Stamp;
 
 // How the first of two events stands to the second.
-#[derive(Drop)]
+#[derive(Clone, Copy)]
 pub enum Relation {
     Same,
     Before,
@@ -16,7 +18,7 @@ pub enum Relation {
 }
 
 // What is known of an event of a log: its thread, its place there (how many events of that thread come before it or are it), and its stamp.
-#[derive(Drop)]
+#[derive(Clone, Copy)]
 pub struct StampedEvent {
     pub thread: u8,
     pub place: u16,

@@ -1,5 +1,7 @@
 // On a match writes replay.bin, a log that shows it; then prints the listing of pattern.bin and log.bin. All three are in the folder where
 // it is run.
+#![tactic(auto)]
+
 fn main() {
     if 1 < os::arg_count() {
         files::print(b"replay", b"usage: replay\n");

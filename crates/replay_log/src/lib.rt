@@ -1,4 +1,6 @@
 // The log that shows a match: a pattern and a log judged, and on a match the replay written to a lent buffer.
+#![tactic(auto)]
+
 ghost use Rattle.std.specs.Prelude.{◌≡◌};
 ghost use Rattle.run.specs.Answers.{judged_is};
 ghost use Rattle.replay_log.specs.Replay.{ReplayOf, too_short_replayed, without_match};
@@ -6,7 +8,7 @@ ghost use Rattle.replay_log.specs.Replay.{ReplayOf, too_short_replayed, without_
 use run::{Judged, Outcome};
 
 // What a run over the log says, and how many bytes of replay were written; 15 where the buffer has fewer bytes than the log.
-#[derive(Drop)]
+#[derive(Clone, Copy)]
 pub struct Replayed {
     pub judged: Judged,
     pub length: usize,

@@ -1,4 +1,6 @@
 // The replay order of a log, by the events that a match names: written group by group, each command as it stands.
+#![tactic(auto)]
+
 ghost use Rattle.std.specs.Prelude.{◌≡◌, Bool, List, ℕ, ◌+◌, ◌≤◌, min, length, take};
 ghost use Rattle.event.specs.declared.Event.{Event};
 ghost use Rattle.event.specs.Limits.{slots as slot_limit};

@@ -1,4 +1,6 @@
 // A batch of events for each session of a lent row: a session is copied for its turn in a row, so that turns are to be few.
+#![tactic(auto)]
+
 ghost use Rattle.std.specs.Prelude.{◌≡◌, cond, ◌<◌, ◌≤◌, eqb, ltb};
 ghost use Rattle.session_row.specs.Row.{most, places, turned, RowAnswered, FirstHanded};
 ghost use Rattle.row_batch.specs.Batch.{batch, events_of, alone_through};
@@ -11,14 +13,14 @@ use session_row::{PLACES, RowAnswer, RowHanded, Tally, Turned};
 pub const BATCH: usize = 64;
 
 // Events to be handed over one after another: the first `size`, or all where there are fewer.
-#[derive(Drop)]
+#[derive(Clone, Copy)]
 pub struct Batch {
     pub events: [Event; BATCH],
     pub size: usize,
 }
 
 // The number of the first refusal among the events of a batch, 0 with none, beside the session they leave.
-#[derive(Drop)]
+#[derive(Clone, Copy)]
 struct GoneThrough {
     number: u8,
     session: Session,

@@ -1,4 +1,6 @@
 // A log gone through once for a row of sessions, a batch of events at a time.
+#![tactic(auto)]
+
 ghost use Rattle.std.specs.Prelude.{◌≡◌, List, ◌≤◌, length};
 ghost use Rattle.event.specs.declared.Event.{Event};
 ghost use Rattle.event.specs.Limits.{events as event_limit};
@@ -14,7 +16,7 @@ use session::Session;
 use session_row::PLACES;
 
 // How the log ended: it is too long, which is for those to say that don't go through it, refused, or read to its end.
-#[derive(Drop)]
+#[derive(Clone, Copy)]
 pub enum End {
     TooLong,
     Refused { number: u8, offset: usize },
@@ -22,7 +24,7 @@ pub enum End {
 }
 
 // Where the reading of some events stopped: as many were read as a batch holds, the log ended, or the next command is refused.
-#[derive(Drop)]
+#[derive(Clone, Copy)]
 enum Stop {
     More { next: usize },
     End,
@@ -30,7 +32,7 @@ enum Stop {
 }
 
 // Some events of a log, where the reading stopped, and the state of the rules then.
-#[derive(Drop)]
+#[derive(Clone, Copy)]
 struct Filled {
     batch: Batch,
     stop: Stop,
@@ -38,7 +40,7 @@ struct Filled {
 }
 
 // A log gone through: how it ended, and the sessions afterwards.
-#[derive(Drop)]
+#[derive(Clone, Copy)]
 pub struct Passed {
     pub end: End,
     pub sessions: [Session; PLACES],

@@ -1,5 +1,7 @@
 // Rows of 0, 1, 16 and 17 sessions: what a call answers where none, the first, a middle, the last or several refuse, and whether each session is then what it
 // would be alone. The same for a batch of events.
+#![tactic(auto)]
+
 use event::{Event, Operation};
 use row_batch::{BATCH, Batch};
 use session::Session;

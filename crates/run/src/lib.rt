@@ -1,4 +1,6 @@
 // Runs over a whole log: whether some order of its events holds the pattern, and the first events that show it.
+#![tactic(auto)]
+
 ghost use Rattle.std.specs.Prelude.{◌≡◌, replicate, take};
 ghost use Rattle.event.specs.Limits.{slots as slot_limit};
 ghost use Rattle.slot_search.specs.Patterns.{Usable};
@@ -8,7 +10,7 @@ ghost use Rattle.run.specs.Answers.{judged_is, judged_after, judged_by, greatest
 use event_log::{LogRead, Pattern, PatternAnswer};
 use slot_search::LogSearch;
 
-#[derive(Drop)]
+#[derive(Clone, Copy)]
 pub enum Outcome {
     Match { count: usize },
     None,
@@ -16,7 +18,7 @@ pub enum Outcome {
     LogRefused { number: u8, offset: usize },
 }
 
-#[derive(Drop)]
+#[derive(Clone, Copy)]
 pub struct Judged {
     pub outcome: Outcome,
     pub numbers: [u16; event::SLOTS],

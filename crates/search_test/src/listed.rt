@@ -11,7 +11,7 @@ use swap_search::truth::Truth;
 use swap_search::{orders, truth};
 
 // What was seen on the way: whether all went well, how many orders were given, and whether one holds the slots.
-#[derive(Drop)]
+#[derive(Clone, Copy)]
 struct Gone {
     right: bool,
     given: usize,

@@ -1,4 +1,6 @@
 // Holds runs, sessions, replays, order queries and listed orders to a plain search through all orders of many small logs, and prints how many were compared.
+#![tactic(auto)]
+
 mod compare;
 mod first;
 mod grouped;

@@ -13,7 +13,7 @@ use swap_search::truth::Truth;
 use swap_search::{lists, orders, truth};
 
 // What a replay call gave, and the bytes afterwards, of which a part was lent.
-#[derive(Drop)]
+#[derive(Clone, Copy)]
 struct Call {
     judged: Judged,
     length: usize,

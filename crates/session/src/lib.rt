@@ -1,4 +1,6 @@
 // Sessions that take events one by one: whether some order of the events taken holds the pattern.
+#![tactic(auto)]
+
 ghost use Rattle.std.specs.Prelude.{◌≡◌, Bool, cond, ◌&&◌, List, reverse, ℕ, ◌+◌, eqb};
 ghost use Rattle.event.specs.declared.Event.{Event};
 ghost use Rattle.event.specs.declared.Slot.{Slot};
@@ -14,7 +16,7 @@ use event::Event;
 use event_log::{Pattern, PatternAnswer};
 
 // The pattern, what is kept of the events taken, how many they are, and the count of the match, 0 without one.
-#[derive(Drop)]
+#[derive(Clone, Copy)]
 pub struct Session {
     pub pattern: Pattern,
     pub state: [u8; rules::STATE],
@@ -25,39 +27,39 @@ pub struct Session {
 }
 
 // The session, beside what became of the pattern: a refused one leaves a session on the lone slot thread 0, mark 0.
-#[derive(Drop)]
+#[derive(Clone, Copy)]
 pub struct Opened {
     pub answer: PatternAnswer,
     pub session: Session,
 }
 
-#[derive(Drop)]
+#[derive(Clone, Copy)]
 pub enum Answer {
     Taken,
     Refused { number: u8, offset: usize },
 }
 
-#[derive(Drop)]
+#[derive(Clone, Copy)]
 pub struct Handed {
     pub answer: Answer,
     pub session: Session,
 }
 
 // What the rules said of an event, and whether it is searched for a match: it is taken, and there is none yet.
-#[derive(Drop)]
+#[derive(Clone, Copy)]
 struct Admission {
     number: u8,
     searched: bool,
 }
 
-#[derive(Drop)]
+#[derive(Clone, Copy)]
 pub enum Found {
     Match { count: usize },
     None,
 }
 
 // Whether there is a match, and the event number of each slot; 0 beyond the pattern and without a match.
-#[derive(Drop)]
+#[derive(Clone, Copy)]
 pub struct Verdict {
     pub found: Found,
     pub numbers: [u16; Session::SLOTS],

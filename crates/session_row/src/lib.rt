@@ -1,4 +1,6 @@
 // Many patterns in one pass: one event for each session of a lent row.
+#![tactic(auto)]
+
 ghost use Rattle.std.specs.Prelude.{◌≡◌, ◌<◌, ◌≤◌};
 ghost use Rattle.session.specs.Answers.{answer_is};
 ghost use Rattle.session_row.specs.Row.{most, places, alone_with, tally_with, turned, answer_of, RowAnswered, FirstHanded};
@@ -13,7 +15,7 @@ pub const MOST: usize = 16;
 pub const PLACES: usize = MOST + 1;
 
 // What became of the event in the row: how many sessions refused it, the lowest place, from 1, that did, and the number of its refusal.
-#[derive(Drop)]
+#[derive(Clone, Copy)]
 pub enum RowAnswer {
     Taken,
     Refused {
@@ -25,7 +27,7 @@ pub enum RowAnswer {
 }
 
 // The sessions so far that refused; all 0 with none.
-#[derive(Drop)]
+#[derive(Clone, Copy)]
 pub struct Tally {
     pub count: usize,
     pub place: usize,
@@ -33,14 +35,14 @@ pub struct Tally {
 }
 
 // The tally after the turn of one session, and that session.
-#[derive(Drop)]
+#[derive(Clone, Copy)]
 pub struct Turned {
     pub tally: Tally,
     pub session: Session,
 }
 
 // Sessions held by value, beside what became of the event in a row of the first of them.
-#[derive(Drop)]
+#[derive(Clone, Copy)]
 pub struct RowHanded {
     pub answer: RowAnswer,
     pub sessions: [Session; PLACES],

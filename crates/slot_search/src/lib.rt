@@ -1,4 +1,6 @@
 // A search through a whole log, for one slot of a pattern at a time: each is filled by the first event that can fill it.
+#![tactic(auto)]
+
 ghost use Rattle.std.specs.Prelude.{◌≡◌};
 ghost use Rattle.first.specs.Search.{none_found, fills_slot};
 ghost use Rattle.event_log.specs.declared.LogRead.TheVariants as LogRead;
@@ -6,11 +8,11 @@ ghost use Rattle.slot_search.specs.Patterns.{Usable};
 ghost use Rattle.slot_search.specs.Searching.{SearchedIn};
 
 use event::{Event, Slot};
-use first::Search;
 use event_log::{LogRead, Pattern, Stepped};
+use first::Search;
 
 // What reading the log gives, and the search at its end; where the log is refused, a search that has found nothing.
-#[derive(Drop)]
+#[derive(Clone, Copy)]
 pub struct LogSearch {
     pub read: LogRead,
     pub search: Search,

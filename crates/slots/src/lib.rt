@@ -1,4 +1,6 @@
 // The slots of a pattern together: which of them an event fits and whether it is none, their threads, their numbers and their keys.
+#![tactic(auto)]
+
 ghost use Rattle.std.specs.Prelude.{◌≡◌, ◌↔◌, true};
 ghost use Rattle.event.specs.Slots.{fitting, threads_of, NoneFitted};
 ghost use Rattle.event.specs.Keys.{slot_number, slot_numbers, slot_key, slot_keys};

@@ -8,7 +8,7 @@ pub const ORDERS: usize = 5040;
 pub const MARKS: usize = 262144;
 
 // Whether the first `count` events have an order that holds the slots, `size` of them.
-#[derive(Drop)]
+#[derive(Clone, Copy)]
 pub struct Question {
     pub events: [u32; MOST],
     pub count: usize,
@@ -17,7 +17,7 @@ pub struct Question {
 }
 
 // The answer, how many orders were looked at, and how many were found.
-#[derive(Drop)]
+#[derive(Clone, Copy)]
 pub struct Searched {
     pub holds: bool,
     pub orders: u64,

@@ -5,7 +5,7 @@ use drawn::Draft;
 use plain::Leading;
 
 // How long the log and the pattern are, and what the search says.
-#[derive(Drop)]
+#[derive(Clone, Copy)]
 pub struct Sample {
     pub log: usize,
     pub pattern: usize,

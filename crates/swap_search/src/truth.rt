@@ -5,7 +5,7 @@ use crate::patterns::Sketch;
 use plain::{Leading, MOST};
 
 // `found` at n speaks of the leading n events, `before` of which event comes before which, `orders` of the orders looked at, `most` of those in one search.
-#[derive(Drop)]
+#[derive(Clone, Copy)]
 pub struct Truth {
     pub leading: Leading,
     pub sketch: Sketch,

@@ -1,4 +1,6 @@
 // The table that keeps, for every set of a pattern's slots, the greatest partial match, as the events of a log arrive.
+#![tactic(auto)]
+
 ghost use Rattle.std.specs.Prelude.{◌≡◌, ◌↔◌, true, false, cond, List, [], ◌∷◌, ◌++◌, ◌+◌, ◌-◌, ◌*◌, ◌^◌, ◌≤◌, ◌<◌, length};
 ghost use Rattle.event.specs.declared.Event.{Event};
 ghost use Rattle.event.specs.declared.Slot.{Slot};
@@ -24,19 +26,19 @@ const SETS: usize = 1 << event::SLOTS;
 
 pub const TABLE: usize = SETS * ROW;
 
-#[derive(Drop)]
+#[derive(Clone, Copy)]
 struct Row {
     at: [u16; ROW],
 }
 
 // For each slot, the least place that an event of it may have.
-#[derive(Drop)]
+#[derive(Clone, Copy)]
 struct Limits {
     at: [u16; LANES],
 }
 
 // What an event puts into a row: its place and its number, at a slot.
-#[derive(Drop)]
+#[derive(Clone, Copy)]
 struct Entry {
     slot: usize,
     place: u16,

@@ -1,1 +1,2 @@
 // The mathematics of event orders: definitions in specs/, their laws in proofs/, no code.
+#![tactic(auto)]

@@ -2,7 +2,7 @@
 use crate::{commands, judged, patterns, whole};
 
 // What a line asks: `tall` where it speaks of events and logs, whose writes have heights; the numbers in its last two fields.
-#[derive(Drop)]
+#[derive(Clone, Copy)]
 pub struct Asked {
     pub word: u8,
     pub tall: bool,

@@ -1,5 +1,7 @@
 // Reads vectors from standard input, a line for each, and prints what the library answers: to add a vector is to add a line.
 // A line is WORD TITLE: FIELD | FIELD | FIELD, a field being bytes in hexadecimal or a number. Its title is printed, and then the answer.
+#![tactic(auto)]
+
 mod admission;
 mod answers;
 mod buffers;

@@ -44,7 +44,7 @@ fn show_first(space: &[u8], n: usize) {
 }
 
 // Where the next command is read, where it is written, and whether there may be one.
-#[derive(Drop)]
+#[derive(Clone, Copy)]
 struct Copying {
     from: usize,
     to: usize,

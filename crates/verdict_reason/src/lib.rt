@@ -1,4 +1,6 @@
 // Why a log has no match: what a run says of it, and the first slot that can't be filled, with what stands in its way.
+#![tactic(auto)]
+
 ghost use Rattle.std.specs.Prelude.{◌≡◌, List, ◌≤◌, ◌<◌, take, replicate};
 ghost use Rattle.event.specs.Limits.{slots as slot_limit};
 ghost use Rattle.event.specs.declared.Event.{Event};
@@ -15,7 +17,7 @@ use event_log::{LogRead, Pattern, PatternAnswer};
 use run::Judged;
 
 // What keeps a log from a match.
-#[derive(Drop)]
+#[derive(Clone, Copy)]
 pub enum Cause {
     // Nothing: a match or a refusal says all.
     Decided,
@@ -32,7 +34,7 @@ pub enum Cause {
 }
 
 // What a run says; and where that is no match, why, with the events of the slots before the one that can't be filled, and 0 at the other places.
-#[derive(Drop)]
+#[derive(Clone, Copy)]
 pub struct Reasoned {
     pub judged: Judged,
     pub cause: Cause,
