@@ -12,8 +12,7 @@ use Rattle.event.specs.Limits.{slots as slot_limit}
 use Rattle.event.specs.Slots.{NoneFitted}
 use Rattle.event.proofs.Tests.{by_test}
 use Rattle.slots.proofs.Below.{below_next}
-use Rattle.slots.proofs.none_fitted.Statement.{statement}
-use Rattle.slots.proofs.none_fitted.Tie as tie
+use Rattle.slots.proofs.none_fitted.Goals as goal
 
 past_end : (fit : List Bool) (j : ℕ) → length fit ≤ j → get_or fit j false ≡ false
 past_end [] j l = refl
@@ -36,38 +35,17 @@ module _ (fit : List Bool) where
   one_fitted : (j n : ℕ) → j < n → get_or fit j false ≡ true → (false ≡ true) ↔ NoneFitted n fit
   one_fitted j n l q = (λ t. absurd (false≢true t), λ none. absurd (false≢true (sym (none j l) ∙ q)))
 
-abbrev invariant-loop : tie.invariant-loop
-invariant-loop size fit j₀ j = (j ≤ slot_limit) × NoneFitted j fit
+pub loop-j-init : goal.loop-j-init
+loop-j-init c = (search rules, not_yet c.args.fit)
 
-abbrev decreases-loop : tie.decreases-loop
-decreases-loop size fit j₀ j = slot_limit - j
+pub returns-then-j-size : goal.returns-then-j-size
+returns-then-j-size c = all_slots c.args.fit c.loop-j.j c.args.size c.loop-j.invariant.1 c.if-j-size.true
 
-loop-holds : tie.Need-loop-init invariant-loop decreases-loop
-loop-holds c = (search rules, not_yet c.args.t1)
+pub returns-then-fit-j : goal.returns-then-fit-j
+returns-then-fit-j c = one_fitted c.args.fit c.loop-j.j c.args.size (search rules) c.if-fit-j.true
 
-returns : tie.Need-returns invariant-loop decreases-loop
-returns c = let s = c.before.before.before in all_slots s.args.t1 c.before.before.loop.j s.args.size c.before.before.loop.invariant.1 c.if1.true
+pub loop-j-preserved : goal.loop-j-preserved
+loop-j-preserved c = (search rules, below_next (λ i. get_or c.args.fit i false ≡ false) c.loop-j.j c.loop-j.invariant.1 c.if-fit-j.false)
 
-returns-2 : tie.Need-returns-2 invariant-loop decreases-loop
-returns-2 c = let s = c.before.before.before.before in one_fitted s.args.t1 c.before.before.before.loop.j s.args.size (search rules) c.if2.true
-
-loop-again : tie.Need-loop-preserved invariant-loop decreases-loop
-loop-again c = (search rules, below_next (λ i. get_or c.before.before.before.before.args.t1 i false ≡ false) c.before.before.before.loop.j c.before.before.before.loop.invariant.1 c.if2.false)
-
-returns-3 : tie.Need-returns-3 invariant-loop decreases-loop
-returns-3 c = all_places c.before.before.args.t1 c.before.loop.j c.before.before.args.size c.before.loop.invariant.1 (search rules)
-
-pub none_fitted_spec : {M : Type 1} → statement M
-none_fitted_spec =
-    tie.close
-    (tie.spec
-    invariant-loop
-    decreases-loop
-    loop-holds
-    returns
-    (λ c. search rules)
-    returns-2
-    (λ c. search rules)
-    (λ c. search rules)
-    loop-again
-    returns-3)
+pub returns : goal.returns
+returns c = all_places c.args.fit c.loop-j.j c.args.size c.loop-j.invariant.1 (search rules)

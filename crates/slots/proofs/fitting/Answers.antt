@@ -1,0 +1,27 @@
+use Prim.Native.Nat.{◌-◌, ◌≤◌}
+use mathlib.Core.Bool.{Bool, false}
+use mathlib.Core.Path.{◌≡◌, refl}
+use native.Mathlib.Nat.{zero-add}
+use native.Mathlib.Numerals.{add-one}
+use lib.ListN.{replicate}
+use borrow.Author.Rules.{rules}
+use Rattle.event.specs.declared.Slot.{Slot}
+use Rattle.event.specs.declared.Event.{Event}
+use Rattle.event.specs.Limits.{slots as slot_limit}
+use Rattle.event.specs.Slots.{fits, no_slot, fitting}
+use Rattle.event.specs.Updated.{updated}
+use Rattle.event.proofs.Filled.{filled_to, all_filled}
+use Rattle.slots.proofs.fitting.Invariants.{by}
+use Rattle.slots.proofs.fitting.Goals as goal
+
+pub loop-j-init : goal.loop-j-init
+unfolding updated
+loop-j-init c = (search rules, refl)
+
+pub loop-j-preserved : goal.loop-j-preserved
+unfolding updated
+loop-j-preserved c = (search rules, rw (add-one, zero-add, c.fit-b.ensures, c.loop-j.invariant.1))
+
+pub returns : goal.returns
+unfolding fitting
+returns c = all_filled (by c.args.e) c.args.slots no_slot c.loop-j.j (replicate slot_limit false) _ c.loop-j.invariant.1 (search rules) (search rules)
