@@ -3,14 +3,16 @@
 use Prim.Native.Nat.{ℕ, zero, suc, ◌≤◌}
 use mathlib.Core.Path.{◌≡◌, refl, ap, ◌∙◌}
 use mathlib.Core.Logic.{◌⊎◌, inl, inr}
-use mathlib.Core.Bool.{Bool, true, false}
+use mathlib.Core.Bool.{Bool, true, false, ◌&&◌}
 use mathlib.Core.List.{List}
 use native.Mathlib.Nat.{le_refl, le_trans, le_antisymm}
 use native.Mathlib.Decide.{dec_le}
 use native.Mathlib.Omega.{arith}
+use lib.Dec.{eqb}
 use lib.ListN.{length}
 use Rattle.event.specs.declared.Event.{Event}
-use Rattle.trace.specs.Tuples.{event_at, Among, one_more, tally}
+use Rattle.trace.specs.Tuples.{event_at, dep_at, thread_at, Among, one_more, tally}
+use Rattle.trace.proofs.Before.{before}
 use Rattle.trace.proofs.Lists.{true_or_false}
 use Rattle.trace.proofs.Numbers.{numbered_among, numbered_at, at_numbered}
 use Rattle.trace.proofs.Tallies.{highest, highest_le, highest_ge}
@@ -58,7 +60,7 @@ module _ (other : Event) (log : List Event) (c : Channel) (t : ℕ) where
 
   pub kept_le : kept ≤ length log
   unfolding clock stamp
-  kept_le = highest_le telling stamp_at (length log) (length log) (λ k u h. le_trans (tally_le _ k) u.1)
+  kept_le = highest_le telling stamp_at (length log) (length log) (λ k u h. le_trans (tally_le (λ i. eqb (thread_at other thread_of log i) t && before (dep_at other dependent log) i k) k) u.1)
 
   kept_high : (n : ℕ) → Told log c t n → n ≤ kept
   unfolding clock
