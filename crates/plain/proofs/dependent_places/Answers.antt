@@ -1,0 +1,16 @@
+-- `plain::dependent_places` meets its contract.
+use borrow.Author.Tests.{lt-ltb, le-ltb}
+use Rattle.plain.specs.Chains.{dependent_at}
+use Rattle.plain.proofs.dependent_places.Goals as goal
+
+pub returns-then-i-ge-MOST : goal.returns-then-i-ge-MOST
+unfolding dependent_at
+returns-then-i-ge-MOST c = rw (le-ltb _ _ c.if-i-ge-MOST.true)
+
+pub returns-then-j-ge-MOST : goal.returns-then-j-ge-MOST
+unfolding dependent_at
+returns-then-j-ge-MOST c = rw (lt-ltb _ _ c.if-i-ge-MOST.false, le-ltb _ _ c.if-j-ge-MOST.true)
+
+pub returns : goal.returns
+unfolding dependent_at
+returns c = rw (lt-ltb _ _ c.if-i-ge-MOST.false, lt-ltb _ _ c.if-j-ge-MOST.false) c.dependent.ensures
