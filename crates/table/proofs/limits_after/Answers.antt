@@ -1,0 +1,22 @@
+use Rattle.event.specs.Limits.{slots as slot_limit}
+use Rattle.event.specs.Updated.{updated}
+use Rattle.table.specs.Table.{limits_to}
+use Prim.Native.Nat.{ℕ, ◌-◌, ◌≤◌}
+use native.Mathlib.Omega.{arith}
+use native.Mathlib.Nat.{zero-add}
+use native.Mathlib.Numerals.{add-one}
+use mathlib.Core.Path.{◌≡◌, refl, ap}
+use mathlib.Core.List.{List}
+use borrow.Author.Rules.{rules}
+use Rattle.table.proofs.limits_after.Goals as goal
+
+pub loop-j-init : goal.loop-j-init
+unfolding updated
+loop-j-init c = (search rules, refl)
+
+pub loop-j-preserved : goal.loop-j-preserved
+unfolding updated
+loop-j-preserved c = (search rules, rw (add-one, zero-add, c.limit-x.ensures, c.loop-j.invariant.1))
+
+pub returns : goal.returns
+returns c = let k : c.loop-j.j ≡ slot_limit = omega arith in ap (λ (xs : List ℕ). record { at = xs }) (rw k at c.loop-j.invariant.1)
