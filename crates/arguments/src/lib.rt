@@ -2,7 +2,11 @@
 #![tactic(auto)]
 
 ghost use Rattle.std.specs.Prelude.{◌+◌, ◌-◌, ◌*◌, ◌≡◌};
+ghost use Rattle.io.specs.Counts.{IsPrefixLen};
 ghost use Rattle.arguments.specs.Numerals.{Extends, TakesFigure, NumberGiven, argument_is, PairGiven, pair_is};
+
+use std::env::FillError;
+use std::rt::Env;
 
 // The most figures of an argument that is a number.
 const FIGURES: usize = 20;
@@ -95,13 +99,30 @@ pub fn pair_of(given: usize, first: &[u8], second: &[u8]) -> Pair
 
 // The two numbers that this program was started with. What the system gives is assumed and not proved, and no contract can say it.
 // An argument longer than its space comes back with length 0, which is no number, as it must be.
-pub fn given_pair() -> Pair {
-    let given = beside_name(os::arg_count());
+pub fn given_pair(rt: &impl Env) -> Pair {
+    let given = beside_name(arg_count(rt));
     let mut first = [0u8; FIGURES];
     let mut second = [0u8; FIGURES];
-    let m = os::arg(1, &mut first);
-    let n = os::arg(2, &mut second);
+    let m = arg(rt, 1, &mut first);
+    let n = arg(rt, 2, &mut second);
     pair_of(given, &first[..m], &second[..n])
+}
+
+// How many arguments this program was started with, its own name among them.
+pub fn arg_count(rt: &impl Env) -> usize {
+    for n in 0..usize::MAX {
+        if let Err(FillError::NotPresent) = rt.arg(n, &mut []) {
+            return n;
+        }
+    }
+    usize::MAX
+}
+
+// Puts the n-th argument at the start of a space, and answers its length: 0 where there is none, or where it is longer than the space.
+pub fn arg(rt: &impl Env, n: usize, space: &mut [u8]) -> usize
+    ensures { IsPrefixLen result space.new }
+{
+    rt.arg(n, space).unwrap_or(0)
 }
 
 // How many arguments there are beside the program's own name, which is counted among them.
