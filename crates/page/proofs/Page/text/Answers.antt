@@ -1,0 +1,15 @@
+use Rattle.page.proofs.Onto.{onto_none, next_byte, all_bytes}
+use mathlib.Core.Path.{◌∙◌}
+use native.Mathlib.Omega.{arith}
+use Rattle.page.proofs.Page.text.Goals as goal
+
+pub loop-i-init : goal.loop-i-init
+loop-i-init c = (omega arith, onto_none _)
+
+pub loop-i-preserved : goal.loop-i-preserved
+loop-i-preserved c = let l = c.loop-i in
+    let h = c.loop-i-test.true in
+    (omega arith, c.byte-p.ensures ∙ next_byte _ l.p c.args.s.now l.i l.invariant.1 h)
+
+pub returns : goal.returns
+returns c = all_bytes _ _ _ c.loop-i.i c.loop-i.invariant.1 c.loop-i-test.false
