@@ -6,7 +6,7 @@ use mathlib.Core.List.{List, [], ◌∷◌}
 use lib.Dec.{ltb}
 use lib.ListN.{length, get_or, replicate, get_or-replicate, get_or-append, get_or-eq_default}
 use lib.Seq.{get_or-append-add}
-use borrow.Author.Tests.{lt-ltb, le-ltb, ltb-true, ltb-false}
+use borrow.Author.Tests.{ltb-true, ltb-false}
 use Rattle.event.specs.declared.Event.{Event}
 use Rattle.event.specs.Slots.{no_event}
 use Rattle.event.specs.Places.{in_places}
@@ -14,23 +14,6 @@ use Rattle.event.proofs.Tests.{by_test}
 use Rattle.trace.specs.Tuples.{event_at, dep_at}
 use Rattle.dependence.specs.Dependence.{dependent}
 use Rattle.order_rows.specs.Rows.{order_places, past_event, event_numbered, dependent_in}
-
--- ---- one of eight
-
-pub none_at_zero : (events : List Event) (k : ℕ) → k ≡ 0 → no_event ≡ event_numbered events k
-none_at_zero events k e = rw e
-
-pub none_beyond : (events : List Event) (k : ℕ) → order_places < k → no_event ≡ event_numbered events k
-none_beyond events zero l = refl
-none_beyond events (suc i) l = rw (le-ltb i order_places (omega arith))
-
-pub one_of_eight : (events : List Event) (k : ℕ) → ¬ (k ≡ 0) → k ≤ order_places → get_or events (k - 1) past_event ≡ event_numbered events k
-one_of_eight events zero d l = absurd (d refl)
-one_of_eight events (suc i) d l =
-    let e : suc i - 1 ≡ i = omega arith in
-    rw (e, lt-ltb i order_places (omega arith))
-
--- ---- a log's
 
 module _ (es : List Event) (few : length es ≤ order_places) where
   event_at_lem : (i : ℕ) → i < order_places → get_or (in_places no_event order_places es) i past_event ≡ get_or es i no_event

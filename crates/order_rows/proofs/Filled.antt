@@ -4,9 +4,8 @@ use mathlib.Core.Path.{◌≡◌, refl, sym, ap, ap₂, ◌∙◌}
 use mathlib.Core.Bool.{Bool, true, false}
 use mathlib.Core.List.{List, [], ◌∷◌, ◌++◌, append-nil}
 use native.Mathlib.Omega.{arith}
-use native.Mathlib.Numerals.{add-one}
-use lib.ListN.{length, get_or, take, length-append}
-use lib.Seq.{append_snoc, take-suc, length-take-le}
+use lib.ListN.{length, take, length-append}
+use lib.Seq.{append_snoc, length-take-le}
 use Rattle.event.proofs.Places.{next_place}
 use Rattle.trace.proofs.Lists.{filter}
 use Rattle.trace.proofs.Runs.{run}
@@ -45,20 +44,6 @@ pub record Copied (o : List ℕ) (to : ℕ) (f : Filling) (i : ℕ) : Type 0 whe
   pub high : i ≤ to
   pub place : f.at ≡ i
   pub sofar : f ≡ put_all (take i o) empty_filling
-
-module _ (o : List ℕ) (to : ℕ) where
-  pub copied_start : Copied o to empty_filling 0
-  copied_start = record { high = omega arith; place = refl; sofar = refl }
-
-  pub copied_step : (f : Filling) (i : ℕ) → Copied o to f i → i < to → i < length o → {g : Filling} → g ≡ put_if true (get_or o i 0) f → Copied o to g (i + 1)
-  copied_step f i h l m {g} e =
-      record { high = omega arith; place = ap (λ (x : Filling). x.at) e ∙ ap (λ n. n + 1) h.place; sofar = e ∙ ap (put_if true (get_or o i 0)) h.sofar ∙ sym one }
-    where
-      one : put_all (take (i + 1) o) empty_filling ≡ put_if true (get_or o i 0) (put_all (take i o) empty_filling)
-      one = rw (add-one i, take-suc o i 0 m) (put_append (take i o) (get_or o i 0 ∷ []) empty_filling)
-
-  pub copied_end : (f : Filling) (i : ℕ) → Copied o to f i → to ≤ i → f ≡ put_all (take to o) empty_filling
-  copied_end f i h l = let e : i ≡ to = let u = h.high in omega arith in h.sofar ∙ ap (λ n. put_all (take n o) empty_filling) e
 
 -- ---- a number behind them, and others behind that
 

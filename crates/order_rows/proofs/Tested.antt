@@ -1,36 +1,18 @@
 -- The test for an order, one number after another.
-use Prim.Native.Nat.{ℕ, ◌+◌, ◌≤◌, ◌<◌}
-use mathlib.Core.Path.{◌≡◌, refl, sym, ap, ◌∙◌}
-use mathlib.Core.Bool.{Bool, true, false, not, ◌&&◌, and_assoc}
+use Prim.Native.Nat.{ℕ, ◌+◌, ◌≤◌}
+use mathlib.Core.Path.{◌≡◌, refl, sym, ap}
+use mathlib.Core.Bool.{true, false}
 use mathlib.Core.List.{List, [], ◌∷◌}
 use native.Mathlib.Omega.{arith}
 use lib.Dec.{leb}
-use lib.ListN.{length, get_or, drop}
+use lib.ListN.{length}
 use borrow.Author.Tests.{leb-true, le-leb}
 use Rattle.trace.proofs.Lists.{same_test, failed, filter}
 use Rattle.trace.proofs.Runs.{run, among_of, of_among}
-use Rattle.enumeration.specs.Computed.{contains, free, straight}
+use Rattle.enumeration.specs.Computed.{contains}
 use Rattle.enumeration.proofs.Tests.{contains_mem, mem_contains}
 use Rattle.enumeration.proofs.OrderLists.{run_length}
-use Rattle.order_rows.specs.Rows.{order_places, straight_at}
-use Rattle.order_rows.proofs.Walks.{drop_step, drop_end}
-
--- ---- the numbers of a list
-
-module _ (dep : ℕ → ℕ → Bool) (o : List ℕ) (p : ℕ) where
-  straight_step : p < length o → straight dep (drop p o) ≡ straight_at dep o p && straight dep (drop (p + 1) o)
-  straight_step l =
-      ap (straight dep) (drop_step o p l)
-      ∙ sym (and_assoc (not (contains (drop (p + 1) o) (get_or o p 0))) (free dep (drop (p + 1) o) (get_or o p 0)) (straight dep (drop (p + 1) o)))
-
-  pub straight_fails : p < length o → straight_at dep o p ≡ false → straight dep (drop p o) ≡ false
-  straight_fails l h = straight_step l ∙ ap (λ b. b && straight dep (drop (p + 1) o)) h
-
-  pub straight_passes : p < length o → straight_at dep o p ≡ true → straight dep (drop p o) ≡ straight dep (drop (p + 1) o)
-  straight_passes l h = straight_step l ∙ ap (λ b. b && straight dep (drop (p + 1) o)) h
-
-  pub straight_ended : length o ≤ p → straight dep (drop p o) ≡ true
-  straight_ended l = rw (drop_end o p l)
+use Rattle.order_rows.specs.Rows.{order_places}
 
 -- ---- the numbers 1 to n
 
