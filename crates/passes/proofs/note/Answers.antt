@@ -1,0 +1,23 @@
+use Prim.Native.Nat.{◌-◌, ◌≤◌}
+use native.Mathlib.Omega.{arith}
+use mathlib.Core.Path.{◌≡◌, refl}
+use Rattle.event.specs.Limits.{slots as slot_limit}
+use native.Mathlib.Numerals.{add-one}
+use native.Mathlib.Nat.{zero-add}
+use mathlib.Core.Bool.{cond}
+use lib.Dec.{eqb}
+use lib.ListN.{get_or}
+use Rattle.event.specs.Updated.{updated}
+use borrow.Author.Rules.{rules}
+use Rattle.passes.proofs.note.Goals as goal
+
+pub loop-j-init : goal.loop-j-init
+unfolding updated
+loop-j-init c = (search rules, refl)
+
+pub loop-j-preserved : goal.loop-j-preserved
+unfolding updated
+loop-j-preserved c = (search rules, rw (add-one, zero-add c.loop-j.j, c.either-x.ensures, c.loop-j.invariant.1))
+
+pub returns : goal.returns
+returns c = let k : c.loop-j.j ≡ slot_limit = omega arith in rw k at c.loop-j.invariant.1
