@@ -33,7 +33,7 @@ use Rattle.clock.specs.Clocks.{higher_of, count_of}
 use Rattle.clock.specs.Arrivals.{StampOf, ClocksOf}
 use Rattle.clock.proofs.Entries.{heard_length, heard_from_lem}
 use Rattle.first.specs.declared.Search.{Search}
-use Rattle.first.specs.Search.{none_found_lem, filled, looking_on, is_running}
+use Rattle.first.specs.Search.{none_found, filled, looking_on, is_running}
 use Rattle.passes.specs.Passes.{Leads, SlotsOf, LastsOf, FirstAbove, Stamped}
 use Rattle.first.specs.Holding.{chosen_by, Joined, Underway, Settled, NextIs, Following, Newest}
 use Rattle.passes.proofs.Noting.{keyed_at}
@@ -86,7 +86,7 @@ module _ {slots : List Slot} {keys : List ℕ} {size : ℕ} (so : SlotsOf slots 
 
   -- ---- nothing is found yet
 
-  pub none_found_lem : 0 < size → Settled [] slots size (none_found_lem keys)
+  pub none_found_lem : 0 < size → Settled [] slots size (none_found keys)
   none_found_lem l =
       record {
         found = record {
