@@ -1,0 +1,16 @@
+use Rattle.event.specs.Limits.{slots as slot_limit}
+use Rattle.event.proofs.Filled.{filled_to}
+use mathlib.Core.Bool.{Bool}
+use lib.Dec.{eqb}
+use Prim.Native.Nat.{ℕ, ◌-◌, ◌≤◌}
+use mathlib.Core.Path.{◌≡◌}
+use Rattle.event_numbers.proofs.fitting_in.Given as goal
+
+abbrev pub same : ℕ → ℕ → Bool
+same n m = eqb m n
+
+abbrev pub invariant-loop-j : goal.invariant-loop-j
+invariant-loop-j l = (l.j ≤ slot_limit) × (l.r ≡ filled_to (same l.n) l.slots 0 l.j l.initial.r)
+
+abbrev pub decreases-loop-j : goal.decreases-loop-j
+decreases-loop-j l = slot_limit - l.j
