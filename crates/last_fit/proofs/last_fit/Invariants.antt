@@ -1,0 +1,17 @@
+use Prim.Native.Nat.{◌-◌, ◌≤◌}
+use native.Mathlib.Omega.{arith}
+use mathlib.Core.Path.{sym, ap, ◌∙◌}
+use mathlib.Core.List.{List}
+use Rattle.event.specs.declared.Event.{Event}
+use Rattle.command.specs.Reading.{event_read_is}
+use Rattle.event_log.proofs.Leading.{not_absent}
+use Rattle.passes.specs.Passes.{Leads}
+use Rattle.last_fit.proofs.Fitting.{Passed, begun, ahead, passes_it, all_passed}
+use borrow.Author.Rules.{rules}
+use Rattle.last_fit.proofs.last_fit.Given as goal
+
+abbrev pub invariant-loop-i : goal.invariant-loop-i
+invariant-loop-i l = (l.i ≤ l.n) × ((es : List Event) → Leads l.log es l.n → Passed l.log es l.slot l.last l.place l.at l.i)
+
+abbrev pub decreases-loop-i : goal.decreases-loop-i
+decreases-loop-i l = l.n - l.i
