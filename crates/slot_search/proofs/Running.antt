@@ -24,7 +24,7 @@ use Rattle.clock.specs.declared.Stamp.{Stamp}
 use Rattle.clock.specs.Clocks.{stamp_by, clocks_after, no_stamp}
 use Rattle.clock.specs.Arrivals.{ClocksOf}
 use Rattle.first.specs.declared.Search.{Search}
-use Rattle.first.specs.Search.{none_found_lem, fills_next}
+use Rattle.first.specs.Search.{none_found, fills_next}
 use Rattle.passes.specs.LastPlaces.{last_by}
 use Rattle.passes.specs.Passes.{Leads, SlotsOf, LastsOf}
 use Rattle.first.specs.Holding.{Settled, NextIs, Following, Newest}
@@ -42,7 +42,7 @@ pub record Running (bytes : List ℕ) (slots : List Slot) (keys : List ℕ) (siz
   pub following : Following (reverse past) slots size s clocks last
 
 pub started : {bytes state : List ℕ} {slots : List Slot} {keys : List ℕ} {size : ℕ} (so : SlotsOf slots keys size) → 0 < size → StateOf [] state
-    → {clocks last : List ℕ} → ClocksOf [] clocks → LastsOf [] slots size last → Running bytes slots keys size state clocks last (none_found_lem keys) 0 0
+    → {clocks last : List ℕ} → ClocksOf [] clocks → LastsOf [] slots size last → Running bytes slots keys size state clocks last (none_found keys) 0 0
 started {bytes} {state} so l h k z =
     record {
       past = [];
@@ -67,14 +67,14 @@ module _ {bytes state after : List ℕ} {slots : List Slot} {keys : List ℕ} {s
         without = λ k o z. refused_not_accepted (sym (e ∙ z));
       }
 
-  pub broke : (k o : ℕ) → outcome ≡ refused_at k o → SearchedIn slots size bytes (record { read = LogRefused k o; search = none_found_lem keys })
+  pub broke : (k o : ℕ) → outcome ≡ refused_at k o → SearchedIn slots size bytes (record { read = LogRefused k o; search = none_found keys })
   broke k o q =
       let e = walk.broken r.going h k o q in
       record {
         answer = ap outcome_of e;
         within = omega arith;
         settled = λ es z. refused_not_accepted (e ∙ z);
-        without = λ k' o' z. ap none_found_lem r.so.keyed;
+        without = λ k' o' z. ap none_found r.so.keyed;
       }
 
   -- an event: the clocks take it where they run
