@@ -1,0 +1,18 @@
+use native.Mathlib.Omega.{arith}
+use native.Mathlib.Numerals.{add-one}
+use mathlib.Core.Path.{◌≡◌, refl}
+use Rattle.event.specs.Limits.{slots as slot_limit}
+use Rattle.event_stamps.specs.EventStamps.{is_one_of}
+use borrow.Author.Rules.{rules}
+use Rattle.event_stamps.proofs.is_one_of.Goals as goal
+
+pub loop-j-init : goal.loop-j-init
+unfolding is_one_of
+loop-j-init c = (search rules, refl)
+
+pub loop-j-preserved : goal.loop-j-preserved
+unfolding is_one_of
+loop-j-preserved c = (search rules, rw (add-one, c.loop-j.invariant.1))
+
+pub returns : goal.returns
+returns c = let k : c.loop-j.j ≡ slot_limit = omega arith in rw k at c.loop-j.invariant.1
