@@ -48,11 +48,15 @@ module _ {A K E P : Type 0} (alone : E → K → Alone K) (D : A → P → K →
     (onward : (p : P) (e : E) (es : List E) → number p e ∷ numbers_by (next p e) es ≡ numbers_by p (e ∷ es)) where
   one_event_lem : (us : List A) (p : P) (row : List K) → Each (λ a s. D a p s) us row → (e : E)
       → (map (λ s. (alone e s).number) row ≡ replicate (length row) (number p e)) × Each (λ a s. D a (next p e) s) us (map (λ s. (alone e s).after) row)
-  one_event_lem _ p _ none e = (refl, none)
-  one_event_lem _ p _ (more {s = a} {ss = us} {a = s} {rest = row} d ds) e =
-      let here = one a p s d e in
-      let rest = one_event_lem us p row ds e in
-      (ap₂ ◌∷◌ here.0 rest.0, more here.1 rest.1)
+  one_event_lem us p row ds e = go us row ds
+    where
+      go : (us : List A) (row : List K) → Each (λ a s. D a p s) us row
+          → (map (λ s. (alone e s).number) row ≡ replicate (length row) (number p e)) × Each (λ a s. D a (next p e) s) us (map (λ s. (alone e s).after) row)
+      go _ _ none = (refl, none)
+      go _ _ (more {s = a} {ss = us} {a = s} {rest = row} d ds) =
+          let here = one a p s d e in
+          let rest = go us row ds in
+          (ap₂ ◌∷◌ here.0 rest.0, more here.1 rest.1)
 
   pub numbers_alike : (es : List E) (us : List A) (p : P) (row : List K) → length row ≤ most → Each (λ a s. D a p s) us row
       → row_numbers_all alone row es ≡ map (λ k. numbers_over (replicate (length row) k)) (numbers_by p es)
