@@ -1,6 +1,5 @@
 -- `arguments::pair_of` meets its contract.
 use native.Mathlib.Omega.{arith}
-use borrow.Author.Rules.{rules}
 use Rattle.arguments.specs.Numerals.{no_numerals}
 use Rattle.arguments.proofs.Reading.{both, first_none, second_none}
 use Rattle.arguments.proofs.pair_of.Goals as goal
