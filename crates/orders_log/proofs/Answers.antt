@@ -5,7 +5,7 @@ use native.Mathlib.Numerals.{add-one}
 use mathlib.Core.Path.{◌≡◌, refl, sym, ap, ◌∙◌}
 use mathlib.Core.Logic.{◌↔◌}
 use mathlib.Core.Bool.{Bool, true, false}
-use mathlib.Core.Option.{Option, some, none}
+use mathlib.Core.Option.{Option}
 use mathlib.Core.List.{List, [], ◌∷◌, ◌++◌}
 use lib.Dec.{ltb}
 use lib.ListN.{length, get_or, take, set, replicate}
@@ -24,11 +24,9 @@ use Rattle.event_log.specs.Whole.{Whole, accepted, refused, read_log, Passing, p
 use Rattle.dependence.specs.Dependence.{dependent}
 use Rattle.enumeration.specs.Computed.{next_order}
 use Rattle.enumeration.proofs.OrderLists.{first_is, next_is, order_sized}
-use Rattle.order_rows.specs.declared.NextRow.{NextRow}
-use Rattle.order_rows.specs.Rows.{order_places, next_row}
-use Rattle.order_rows.proofs.Walks.{drop_step, drop_end}
+use Rattle.order_rows.specs.Rows.{order_places}
+use Rattle.order_rows.proofs.Walks.{drop_step}
 use Rattle.orders_log.specs.declared.GivenRow.{GivenRow}
-use Rattle.orders_log.specs.declared.Given.TheVariants as case
 use Rattle.orders_log.specs.OrderCalls.{IsRow, Giving, afterwards, log_refused, orders-refused, refused_log, long_log, FirstGives, first, NextAmongEvents, no_order, after, NextGives, short_log, first_of, given_of, SaysSo, GivesSo}
 use Rattle.orders_log.proofs.Rows.{Zeros}
 
@@ -46,15 +44,6 @@ module _ (row : List ℕ) (i : ℕ) where
     where
       tail_of : {x y : ℕ} {xs ys : List ℕ} → x ∷ xs ≡ y ∷ ys → xs ≡ ys
       tail_of h = cc
-
-  pub zeros_fail : i < length row → ¬ (get_or row i 0 ≡ 0) → ¬ Zeros row i
-  zeros_fail l d z = d (head_of (sym (drop_step row i l) ∙ z ∙ ap (λ n. replicate n 0) (less l)))
-    where
-      head_of : {x y : ℕ} {xs ys : List ℕ} → x ∷ xs ≡ y ∷ ys → x ≡ y
-      head_of h = cc
-
-  pub zeros_end : length row ≤ i → Zeros row i
-  zeros_end l = let e : length row - i ≡ 0 = omega arith in rw e (drop_end row i l)
 
 -- ---- a log's first events
 
@@ -116,14 +105,6 @@ pub next_given : (bytes row : List ℕ) (es : List Event) {r : GivenRow} → rea
 next_given bytes row es p l g = says_more (λ a h. short_log p l h) g
 
 -- ---- the order after
-
-pub found_order : (f : NextRow) (o : Option (List ℕ)) → f ≡ next_row o → f.found ≡ true → record { given = case.Order; row = f.row } ≡ given_of (afterwards o)
-found_order f (some o) e t = rw e
-found_order f none e t = absurd (both_ways t (ap (λ (x : NextRow). x.found) e))
-
-pub found_none : (f : NextRow) (o : Option (List ℕ)) → f ≡ next_row o → f.found ≡ false → record { given = case.Last; row = replicate order_places 0 } ≡ given_of (afterwards o)
-found_none f (some o) e t = absurd (both_ways (ap (λ (x : NextRow). x.found) e) t)
-found_none f none e t = refl
 
 -- what is given after an order among the events
 pub next_order_lem : (es : List Event) (row : List ℕ) → length es ≤ order_places → IsRow es row → {r : GivenRow}

@@ -75,7 +75,7 @@ module _ (bytes : List ℕ) (es : List Event) (acc : read_log bytes ≡ accepted
   after_told {o = o} g (no_order d) = absurd (d (o, (orders_given no_event dependent es).only g, refl))
   after_told {o = o} g (after {o = q} {r = s} h e m) =
       let same : o ≡ q = row_one ((orders_given no_event dependent es).only g) h e in
-      (s, refl, InTurn.Going-on g (subst (λ x. NextAmong (IsOrder es) x s) (sym same) m))
+      (s, refl, InTurn.going_on g (subst (λ x. NextAmong (IsOrder es) x s) (sym same) m))
 
   next_told : {k : ℕ} {o : List ℕ} {a : Giving} → Told k (order o) → NextGives bytes (order_row o) a → Told (suc k) a
   next_told h (NextGives.unlisted (refused_log p)) = absurd (accepted_refused acc p)
@@ -90,7 +90,7 @@ module _ (bytes : List ℕ) (es : List Event) (acc : read_log bytes ≡ accepted
 
   given_call : {k : ℕ} {r : Option (List ℕ)} → InTurn (IsOrder es) k r → Called bytes k (afterwards r)
   given_call (InTurn.starting f) = first_call (first acc few f)
-  given_call (InTurn.Going-on g m) = next_call (given_call g) (short_log acc few (after ((orders_given no_event dependent es).only g) refl m))
+  given_call (InTurn.going_on g m) = next_call (given_call g) (short_log acc few (after ((orders_given no_event dependent es).only g) refl m))
 
   told : {k : ℕ} {r : Option (List ℕ)} → Called bytes k (afterwards r) → InTurn (IsOrder es) k r
   told {k} {r} c = let h = call_given c in subst (InTurn (IsOrder es) k) (sym (afterwards_one r h.0 h.1)) h.2

@@ -1,5 +1,5 @@
 -- Calls one after another come to an end: what each gives is larger than what it was handed, and rows of eight numbers up to eight are not without end.
-use Prim.Native.Nat.{ℕ, suc, ◌+◌, ◌-◌, ◌^◌, ◌≤◌, ◌<◌}
+use Prim.Native.Nat.{ℕ, zero, suc, ◌-◌, ◌^◌, ◌≤◌, ◌<◌}
 use native.Mathlib.Omega.{arith}
 use mathlib.Core.Path.{◌≡◌, refl, sym, ap, subst, ◌∙◌}
 use mathlib.Core.Bool.{Bool, true, false, cond}
@@ -27,6 +27,7 @@ use Rattle.orders_log.proofs.EveryOrder.{is_order, afterwards_one}
 -- ---- rows as numbers in base 9
 
 in_row : (o : List ℕ) (m : ℕ) → ((k : ℕ) → Mem k o → k < 9) → (k : ℕ) → Mem k (o ++ replicate m 0) → k < 9
+in_row [] zero h k i = elim i [ ]
 in_row [] (suc m) h k (head e) = omega arith
 in_row [] (suc m) h k (tail i) = in_row [] m h k i
 in_row (x ∷ o) m h k (head e) = h k (head e)
@@ -77,21 +78,8 @@ first_sized (FirstGives.unlisted (refused_log p)) = refl
 first_sized (FirstGives.unlisted (long_log p l)) = refl
 first_sized (first {es = es} {o = o} p l f) = eight es l o f.order
 
-among_sized : {es : List Event} {row : List ℕ} {a : Giving} → length es ≤ order_places → NextAmongEvents es row a → Sized a
-among_sized l (no_order d) = refl
-among_sized {es} l (after h e (next {r = q} g s least)) = eight es l q g
-among_sized l (after h e (NextAmong.last d)) = refl
-
-next_sized : {bytes row : List ℕ} {a : Giving} → NextGives bytes row a → Sized a
-next_sized (NextGives.unlisted (refused_log p)) = refl
-next_sized (NextGives.unlisted (long_log p l)) = refl
-next_sized (short_log p l m) = among_sized l m
-
 pub first_row_sized : {bytes : List ℕ} {r : GivenRow} → GivesSo (FirstGives bytes) r → length r.row ≡ order_places
 first_row_sized g = ap (λ (x : GivenRow). length x.row) g.answer ∙ first_sized g.so
-
-pub next_row_sized : {bytes row : List ℕ} {r : GivenRow} → GivesSo (NextGives bytes row) r → length r.row ≡ order_places
-next_row_sized g = ap (λ (x : GivenRow). length x.row) g.answer ∙ next_sized g.so
 
 -- ---- how far it is to the end
 

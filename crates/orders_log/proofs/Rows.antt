@@ -1,7 +1,7 @@
 -- A list that is given stands for an order exactly where it has eight places, those beyond the events hold 0, and those before them an order.
 use Prim.Native.Nat.{ℕ, ◌-◌, ◌≤◌}
 use native.Mathlib.Omega.{arith}
-use mathlib.Core.Path.{◌≡◌, refl, sym, ap, subst, ◌∙◌}
+use mathlib.Core.Path.{◌≡◌, refl, sym, ap, ◌∙◌}
 use mathlib.Core.Logic.{◌↔◌}
 use mathlib.Core.Bool.{Bool, true, false}
 use mathlib.Core.List.{List}
@@ -16,7 +16,7 @@ use Rattle.trace.proofs.Lists.{both_ways}
 use Rattle.dependence.specs.Dependence.{dependent}
 use Rattle.enumeration.specs.Computed.{ordered}
 use Rattle.enumeration.proofs.OrderLists.{is_order, order_sized}
-use Rattle.order_rows.specs.Rows.{order_places, order_row_lem, dependent_in}
+use Rattle.order_rows.specs.Rows.{order_places, order_row, dependent_in}
 use Rattle.order_rows.proofs.Events.{dependent_in_lem}
 use Rattle.orders_log.specs.OrderCalls.{IsOrder, IsRow}
 
@@ -41,7 +41,7 @@ module _ (es : List Event) (few : length es ≤ order_places) (row : List ℕ) w
   order_row_lem : length row ≡ order_places → Zeros row (length es) → IsOrder es (take (length es) row) → IsRow es row
   order_row_lem l z h =
       let n : length (take (length es) row) ≡ length es = length-take-le (length es) row (omega arith) in
-      let e : row ≡ order_row_lem (take (length es) row) = sym (take-append-drop (length es) row) ∙ rw (z, l, n) in
+      let e : row ≡ order_row (take (length es) row) = sym (take-append-drop (length es) row) ∙ rw (z, l, n) in
       (take (length es) row, h, e)
 
 -- the test, so many events at eight places
@@ -56,12 +56,6 @@ tested events count row r few l z e es n p =
       λ t. order_row_lem es m row l (rw n at z) (h.0 (sym f ∙ t)),
       λ s. f ∙ h.1 (row_order es m row s),
     )
-
--- what is tested has as many numbers as there are events
-pub tested_count : (events : List Event) (count : ℕ) (row : List ℕ) → count ≤ order_places → length row ≡ order_places
-    → ordered (dependent_in events) (length (take count row)) (take count row) ≡ true → ordered (dependent_in events) count (take count row) ≡ true
-tested_count events count row few l t =
-    subst (λ n. ordered (dependent_in events) n (take count row) ≡ true) (length-take-le count row (omega arith)) t
 
 -- where it fails before
 pub untested : (row : List ℕ) (es : List Event) → (IsRow es row → ⊥) → (false ≡ true) ↔ IsRow es row
