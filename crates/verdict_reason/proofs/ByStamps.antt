@@ -2,29 +2,26 @@
 use Prim.Native.Nat.{ℕ, zero, suc, ◌+◌, ◌≤◌, ◌<◌, max}
 use native.Mathlib.Decide.{dec_lt}
 use native.Mathlib.Omega.{arith}
-use mathlib.Core.Path.{◌≡◌, refl, sym, ap, subst, ◌∙◌}
+use mathlib.Core.Path.{◌≡◌, refl, sym, ap, ◌∙◌}
 use mathlib.Core.Logic.{◌↔◌}
-use mathlib.Core.Bool.{true, false}
-use mathlib.Core.List.Memᴰ.{head}
-use mathlib.Core.List.Memᴰ.{tail}
-use mathlib.Core.List.{List, [], ◌∷◌, Memᴰ as Mem}
-use lib.Dec.{leb}
+use mathlib.Core.Bool.{true}
+use mathlib.Core.List.{List, [], ◌∷◌}
 use lib.ListN.{length, get_or, take, length-take}
 use borrow.Author.Tests.{leb-true, le-leb, lt-ltb}
 use Rattle.event.specs.declared.Event.{Event}
 use Rattle.event.specs.declared.Slot.{Slot}
-use Rattle.event.specs.Limits.{threads, slots as slot_limit}
+use Rattle.event.specs.Limits.{slots as slot_limit}
 use Rattle.event.specs.Slots.{fits, no_event}
 use Rattle.event.proofs.SlotNumbers.{fits_alike}
 use Rattle.trace.specs.Before.{Numbered}
 use Rattle.trace.specs.Reason.{no_fit, last_fit, none_fits, too_early, InTheWay}
-use Rattle.trace.specs.Tuples.{Among, dep_at, thread_at, place}
+use Rattle.trace.specs.Tuples.{dep_at, thread_at, place}
 use Rattle.trace.proofs.Lists.{both_ways}
 use Rattle.trace.proofs.Counts.{Lowest, at, nowhere}
 use Rattle.trace.proofs.Numbers.{mem_numbered, numbered_among, numbered_at, comes_iff}
 use Rattle.trace.proofs.Stamps.{stamp_iff, stamp_of, stamp_unique}
 use Rattle.dependence.specs.Dependence.{dependent}
-use Rattle.dependence.specs.Order.{ComesBefore, IsStamp, thread_of}
+use Rattle.dependence.specs.Order.{ComesBefore, thread_of}
 use Rattle.dependence.proofs.Dependent.{one_thread}
 use Rattle.clock.specs.declared.Stamp.{Stamp}
 use Rattle.clock.specs.Clocks.{count_of}
@@ -61,11 +58,13 @@ greatest_listed {es} {k = k} {numbers = numbers} s = greatest_le numbers (length
 
 pub numbered_take : (xs : List ℕ) (k j : ℕ) → j < k → k ≤ length xs → Numbered (take k xs) (suc j) (get_or xs j 0)
 numbered_take [] k j l u = absurd (omega arith)
+numbered_take (x ∷ xs) zero j l u = elim l [ ]
 numbered_take (x ∷ xs) (suc k) zero l u = Numbered.first
 numbered_take (x ∷ xs) (suc k) (suc j) l u = Numbered.next (numbered_take xs k j (omega arith) (omega arith))
 
 take_numbered : (xs : List ℕ) (k : ℕ) {i d : ℕ} → Numbered (take k xs) i d → (j : ℕ) × (i ≡ suc j) × (j < k) × (d ≡ get_or xs j 0)
 take_numbered [] k n = let u = numbered_among n in absurd (let z : ⊥ = omega (arith, length-take {A = ℕ} k []) in z)
+take_numbered (x ∷ xs) zero n = elim n [ ]
 take_numbered (x ∷ xs) (suc k) Numbered.first = (0, refl, omega arith, refl)
 take_numbered (x ∷ xs) (suc k) (Numbered.next n) = let r = take_numbered xs k n in (suc r.0, ap suc r.1, let l = r.2 in omega arith, r.3)
 
