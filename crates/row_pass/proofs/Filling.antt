@@ -6,8 +6,6 @@ use mathlib.Core.Path.{◌≡◌, refl, sym, ap, subst, ◌∙◌}
 use mathlib.Core.List.{List, [], ◌∷◌, ◌++◌, reverse, reverse-append, reverse-reverse}
 use lib.ListN.{length, length-append, length-reverse, take, set}
 use lib.Seq.{take-suc-set, length-take-le}
-use types.Run.{OneOf, miss}
-use denote.Enum.Declared.{tag_of}
 use Rattle.event.specs.declared.Event.{Event}
 use Rattle.event.specs.Limits.{events}
 use Rattle.rules.specs.State.{StateOf}
@@ -22,13 +20,12 @@ use Rattle.row_pass.specs.declared.Filled.{Filled}
 use Rattle.row_pass.specs.declared.Stop.{Stop}
 use Rattle.row_pass.specs.declared.Stop.TheVariants.{More, End, Refused}
 use Rattle.row_pass.specs.Passing.{filled_of, Steps, no_step, one_step, StopsAt, full, at_end, at_refusal, FilledFrom}
-use Rattle.row_pass.specs.contracts.Stop.{the_type}
 
 -- what is left of a stop that `let .. else` found to be neither a full batch nor a refusal: the end
-pub the_end : (s : Stop) → OneOf (1 ∷ 2 ∷ []) (tag_of the_type s) → OneOf (0 ∷ 1 ∷ []) (tag_of the_type s) → s ≡ End
-the_end (More next) p q = absurd (miss (1 ∷ 2 ∷ []) 0 tt p)
+pub the_end : (s : Stop) → ((next : ℕ) → s ≡ More next → ⊥) → ((k o : ℕ) → s ≡ Refused k o → ⊥) → s ≡ End
+the_end (More next) p q = absurd (p next refl)
 the_end End p q = refl
-the_end (Refused k o) p q = absurd (miss (0 ∷ 1 ∷ []) 2 tt q)
+the_end (Refused k o) p q = absurd (q k o refl)
 
 -- the end and a refusal are no full batch
 not_full_end : {A : Type 0} {at : ℕ} → End ≡ More at → A
