@@ -52,6 +52,7 @@ first_are (x ∷ xs) (suc n) l = ap (λ (ys : List ℕ). x ∷ ys) (shifted 0 n 
     shifted a (suc m) = ap (λ (ys : List ℕ). number_in xs a ∷ ys) (shifted (suc a) m)
 
 threads_low : (bytes : List ℕ) {at : ℕ} {es : List Event} → ReadCalls (read_event bytes) at es → (i : ℕ) (e : Event) → Numbered es i e → e.thread < threads
+threads_low bytes (ReadCalls.end _) i e x = elim x [ ]
 threads_low bytes (ReadCalls.more {at = at} {next = n} {a = a} q r) i e first = low_thread bytes at a n (sym q)
 threads_low bytes (ReadCalls.more q r) i e (next m) = threads_low bytes r _ e m
 

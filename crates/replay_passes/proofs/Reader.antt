@@ -1,24 +1,19 @@
 -- A reader that goes through a whole log from its start: each call gives the next event, or the end once there is none.
 -- Assumes nothing.
 use Prim.Native.Nat.{ℕ, ◌+◌, ◌<◌}
-use native.Mathlib.Decide.{dec_lt}
 use native.Mathlib.Omega.{arith}
 use mathlib.Core.Path.{◌≡◌, refl, sym, ap, ap₂, ◌∙◌}
 use mathlib.Core.Bool.{true}
 use mathlib.Core.List.{List, [], ◌∷◌, ◌++◌, append-nil}
 use lib.ListN.{length, get_or, length-append}
-use types.Run.{OneOf}
-use denote.Enum.Declared.{tag_of}
 use Rattle.event.specs.declared.Event.{Event}
 use Rattle.event.specs.Slots.{slot_of}
 use Rattle.event.specs.Range.{range_refusal}
-use Rattle.command.specs.declared.EventRead.{EventRead}
-use Rattle.command.specs.Reading.{Reading, command, closed, refused, event_at, decode, next_after, read_event, read_event_under, event_read_is}
-use Rattle.command.specs.contracts.EventRead.{the_type}
+use Rattle.command.specs.Reading.{Reading, command, closed, refused, event_at, decode, next_after, read_event, read_event_under}
 use Rattle.command.proofs.Held.{was_taken, was_closed}
 use Rattle.command.proofs.Inversion.{Found, decode_found, goes_on_lem, not_closed}
 use Rattle.event_log.specs.Leading.{Leading}
-use Rattle.event_log.proofs.Leading.{calls_lead, Midway, past_it, past_to, within_limits_lem, not_absent}
+use Rattle.event_log.proofs.Leading.{calls_lead, Midway, past_it, past_to, within_limits_lem}
 use Rattle.passes.specs.Passes.{Leads}
 use Rattle.replay_passes.specs.Copies.{ReadAs}
 
@@ -55,14 +50,6 @@ module _ {bytes : List ℕ} where
 
     pub length_whole : length es ≡ length gone + length a.midway.rest
     length_whole = ap length a.midway.whole ∙ length-append gone a.midway.rest
-
-    -- none was read, so that none was left
-    pub none_left : (r : EventRead) → event_read_is r ≡ read_event bytes at → OneOf (1 ∷ 2 ∷ []) (tag_of the_type r) → length gone ≡ length es
-    none_left r q k = go (dec_lt (length gone) (length es))
-      where
-        go : Dec (length gone < length es) → length gone ≡ length es
-        go (yes l) = not_absent a.midway l r q k
-        go (no d) = let w = length_whole in omega arith
 
 -- ---- a command by its form alone
 
