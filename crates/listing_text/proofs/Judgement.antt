@@ -40,6 +40,8 @@ module _ (bytes : List ℕ) (es : List Event) (q : read_log bytes ≡ accepted e
   pub lines_per_slot : (ss : List Slot) (ns zeros : List ℕ) (slot : ℕ) → Each (λ s i. (e : Event) × Numbered es i e × (fits s e ≡ true)) ss ns
       → get_or zeros 0 0 ≡ 0 → SlotLines es slot ns (lines_of bytes slot (ns ++ zeros))
   lines_per_slot [] [] zeros slot none z = subst (SlotLines es slot []) (sym (ended slot zeros z)) listing.none
+  lines_per_slot [] (n ∷ ns) zeros slot x z = elim x [ ]
+  lines_per_slot (s ∷ ss) [] zeros slot x z = elim x [ ]
   lines_per_slot (s ∷ ss) (n ∷ ns) zeros slot (more (e, m, f) rest) z =
       subst (SlotLines es slot (n ∷ ns)) (sym whole) (listing.line m (lines_per_slot ss ns zeros (slot + 1) rest z))
     where
