@@ -1,5 +1,5 @@
 -- The call's answer, by what the run over the log said.
-use Prim.Native.Nat.{ℕ, zero, suc, ◌+◌, ◌≤◌, ◌<◌}
+use Prim.Native.Nat.{ℕ, zero, suc, ◌≤◌, ◌<◌}
 use native.Mathlib.Nat.{zero-add}
 use native.Mathlib.Omega.{arith}
 use mathlib.Core.Path.{◌≡◌, refl, sym, ap, ◌∙◌}
@@ -10,8 +10,6 @@ use mathlib.Core.List.{List, [], ◌∷◌, ◌++◌, Memᴰ as Mem}
 use lib.Dec.{ltb}
 use lib.ListN.{length, get_or, take, drop, length-append}
 use lib.Seq.{get_or-take}
-use types.Run.{OneOf, miss}
-use denote.Enum.Declared.{tag_of}
 use borrow.Author.Tests.{ltb-true, ltb-false}
 use Rattle.event.specs.declared.Event.{Event}
 use Rattle.event.specs.declared.Slot.{Slot}
@@ -30,7 +28,6 @@ use Rattle.session.specs.Meaning.{VerdictOf, log_refused, judged, RunOf, pattern
 use Rattle.run.specs.declared.Outcome.{Outcome}
 use Rattle.run.specs.declared.Outcome.TheVariants.{Match, None, PatternRefused, LogRefused}
 use Rattle.run.specs.Answers.{judged_is, outcome_is}
-use Rattle.run.specs.contracts.Outcome.{the_type}
 use Rattle.replay_passes.specs.Copies.{ReadAs, NamedAmong, Replays}
 use Rattle.replay_log.specs.declared.Replayed.{Replayed}
 use Rattle.replay_log.specs.Replay.{ReplayOf, too_short_replayed, without_match}
@@ -68,17 +65,10 @@ run_passed pattern bytes g (over_log {ss = ss} q (judged {es = es} r v f)) z = r
 
 -- ---- without a match
 
-pub kept : (o : Outcome) (numbers : List ℕ) (short : Bool) → OneOf (0 ∷ 2 ∷ 3 ∷ []) (tag_of the_type o)
-    → record { judged = record { outcome = o; numbers = numbers }; length = 0 } ≡ without_match (record { outcome = o; numbers = numbers }) short
-kept (Match n) numbers short k = refl
-kept None numbers short k = absurd (miss (0 ∷ 2 ∷ 3 ∷ []) 1 tt k)
-kept (PatternRefused m o) numbers short k = refl
-kept (LogRefused m o) numbers short k = refl
-
 pub nothing_written : (pattern bytes buffer : List ℕ) (o : Outcome) (numbers : List ℕ) (short : Bool) → short ≡ ltb (length buffer) (length bytes)
-    → OneOf (1 ∷ 2 ∷ 3 ∷ []) (tag_of the_type o) → RunOf pattern bytes (outcome_is o numbers)
+    → ((n : ℕ) → o ≡ Match n → ⊥) → RunOf pattern bytes (outcome_is o numbers)
     → let r : Replayed = without_match (record { outcome = o; numbers = numbers }) short in ReplayOf pattern bytes buffer (judged_is r.judged) r.length buffer
-nothing_written pattern bytes buffer (Match n) numbers short is k run = absurd (miss (1 ∷ 2 ∷ 3 ∷ []) 0 tt k)
+nothing_written pattern bytes buffer (Match n) numbers short is k run = absurd (k n refl)
 nothing_written pattern bytes buffer (PatternRefused m o) numbers short is k run = ReplayOf.refused run (λ z. pattern_not_nothing z)
 nothing_written pattern bytes buffer (LogRefused m o) numbers short is k run = ReplayOf.refused run (λ z. log_not_nothing z)
 nothing_written pattern bytes buffer None numbers true is k run = ReplayOf.too_short run refl (ltb-true _ _ (sym is))
@@ -122,14 +112,13 @@ few_slots pattern b = go (read_pattern pattern) refl
     go (refused k o) q = omega arith
 
 module _ (pattern bytes buffer : List ℕ) (o : Outcome) (numbers : List ℕ) (n : ℕ) (e : o ≡ Match n) (run : RunOf pattern bytes (outcome_is o numbers)) where
-  pub short_of_it : ltb (length buffer) (length bytes) ≡ true → ReplayOf pattern bytes buffer (judged_is too_short_replayed.judged) too_short_replayed.length buffer
-  short_of_it t = ReplayOf.too_short (rw e at run) refl (ltb-true _ _ t)
+  pub short_of_it : length buffer < length bytes → ReplayOf pattern bytes buffer (judged_is too_short_replayed.judged) too_short_replayed.length buffer
+  short_of_it l = ReplayOf.too_short (rw e at run) refl l
 
-  pub replay_written : ltb (length buffer) (length bytes) ≡ false → Bytes bytes → (size long : ℕ) (after : List ℕ) → size ≡ (pattern_from (read_pattern pattern)).size
+  pub replay_written : length bytes ≤ length buffer → Bytes bytes → (size long : ℕ) (after : List ℕ) → size ≡ (pattern_from (read_pattern pattern)).size
       → ((es : List Event) → ReadAs bytes es → NamedAmong es numbers size n → length bytes ≤ length buffer → Replays es (take size numbers) buffer long after)
       → ReplayOf pattern bytes buffer (outcome_is o numbers) long after
-  replay_written f b size long after is writes =
-      let l = ltb-false _ _ f in
+  replay_written l b size long after is writes =
       let said = rw e at run in
       let p = run_passed pattern bytes (outcome_is (Match n) numbers) said refl in
       let s : size ≡ length p.ss = is ∙ ap (λ (w : Whole Slot). (pattern_from w).size) p.slots_are in
