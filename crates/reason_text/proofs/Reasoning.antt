@@ -45,7 +45,6 @@ use Rattle.listing_text.proofs.Lengths.{fits_a_page as listing-fits, lines as li
 use Rattle.listing_text.proofs.SlotLines.{no_line}
 use Rattle.verdict_reason.specs.declared.Cause.{Cause}
 use Rattle.verdict_reason.specs.declared.Cause.TheVariants.{Decided}
-use Rattle.verdict_reason.specs.declared.Reasoned.{Reasoned}
 use Rattle.verdict_reason.specs.Reasons.{cause_of, log_refused, match, no_match, ReasonOf, pattern_refused, over_log}
 use Rattle.verdict_reason.proofs.EveryReason.{reason_none}
 use Rattle.reason_text.specs.CauseText.{slot_event, cause_text, reasoned_text}
