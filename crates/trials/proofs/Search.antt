@@ -24,6 +24,7 @@ module _ {A : Type 0} where
   before_each (x ∷ xs) rows = map (λ (row : List A). x ∷ row) rows ++ before_each xs rows
 
   mem_before : {x : A} {xs : List A} {row : List A} {rows : List (List A)} → Mem x xs → Mem row rows → Mem (x ∷ row) (before_each xs rows)
+  mem_before {xs = []} m n = elim m [ ]
   mem_before {x} {xs = y ∷ ys} {row} {rows} (head e) n =
       let m : Mem (x ∷ row) (map (λ (r : List A). y ∷ r) rows) = rw e (mem-map (λ (r : List A). y ∷ r) n) in
       mem-left (before_each ys rows) m
