@@ -5,7 +5,7 @@ use native.Mathlib.Numerals.{add-one}
 use mathlib.Core.Path.{◌≡◌, refl, sym, ap, ◌∙◌}
 use mathlib.Core.List.{List, [], ◌∷◌, ◌++◌, append-nil}
 use lib.ListN.{length, get_or, take, set, replicate, length-append}
-use lib.Seq.{set-append_seam, append_snoc, take-suc, take_all, take_at}
+use lib.Seq.{set-append_seam, append_snoc, take-suc, take_at}
 use borrow.Author.Tests.{lt-ltb}
 use Rattle.page.specs.declared.Page.{Page}
 use Rattle.page.specs.Page.{room, empty_page, with, onto, held}
@@ -50,11 +50,8 @@ holds s (b ∷ t) h =
 pub holding : (t : List ℕ) (p : Page) → length t ≤ room → p ≡ onto empty_page t → held p ≡ t
 holding t p h q = rw (q ∙ holds [] t (omega arith)) (take_at t (replicate (room - length t) 0) (length t) refl)
 
--- the next byte of a text, and the last
+-- the next byte of a text
 pub next_byte : (p q : Page) (s : List ℕ) (i : ℕ) → q ≡ onto p (take i s) → i < length s → with q (get_or s i 0) ≡ onto p (take (i + 1) s)
 next_byte p q s i h l =
     ap (λ (r : Page). with r (get_or s i 0)) h ∙ onto_one (onto p (take i s)) (get_or s i 0) ∙ onto_append p (take i s) (get_or s i 0 ∷ [])
     ∙ ap (onto p) (sym (take-suc s i 0 l) ∙ ap (λ (k : ℕ). take k s) (sym (add-one i)))
-
-pub all_bytes : (p q : Page) (s : List ℕ) (i : ℕ) → q ≡ onto p (take i s) → length s ≤ i → q ≡ onto p s
-all_bytes p q s i h l = h ∙ ap (onto p) (take_all i s l)

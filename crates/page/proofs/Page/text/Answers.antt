@@ -1,4 +1,4 @@
-use Rattle.page.proofs.Onto.{onto_none, next_byte, all_bytes}
+use Rattle.page.proofs.Onto.{onto_none, next_byte}
 use mathlib.Core.Path.{◌∙◌}
 use native.Mathlib.Omega.{arith}
 use Rattle.page.proofs.Page.text.Goals as goal
@@ -10,6 +10,3 @@ pub loop-i-preserved : goal.loop-i-preserved
 loop-i-preserved c = let l = c.loop-i in
     let h = c.loop-i-test.true in
     (omega arith, c.byte-p.ensures ∙ next_byte _ l.p c.args.s.now l.i l.invariant.1 h)
-
-pub returns : goal.returns
-returns c = all_bytes _ _ _ c.loop-i.i c.loop-i.invariant.1 c.loop-i-test.false
