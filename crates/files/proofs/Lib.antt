@@ -1,4 +1,2 @@
-pub mod Flags
 pub mod Pages
 pub mod Paths
-pub mod Processes

@@ -3,7 +3,7 @@
 // What the system reads and writes is assumed and not proved.
 #![tactic(auto)]
 
-ghost use Rattle.std.specs.Prelude.{ℕ, ◌≤◌, ◌≡◌, false, length, pos};
+ghost use Rattle.std.specs.Prelude.{◌≤◌, ◌≡◌, None, IsErr, length};
 ghost use Rattle.io.specs.Counts.{IsPrefixLen};
 ghost use Rattle.listing_text.specs.Listing.{Listing};
 ghost use Rattle.reason_text.specs.ReasonText.{ReasonText};
@@ -14,6 +14,10 @@ ghost use Rattle.files.specs.Paths.{Appended, SpareName};
 use arguments::Pair;
 use load_text::Made;
 use run::Outcome;
+use std::fs::{File, OpenFile};
+use std::io::{Eprint, Error, ErrorKind, Print, Read, Write};
+use std::rt::Files;
+use std::{fs, process, str};
 use writer::Written;
 
 // How many bytes of a folder's two files were read.
@@ -23,32 +27,43 @@ pub struct Sizes {
     pub log: usize,
 }
 
+// What knows the number of its process, which no other running program has.
+pub trait ProcessNumber {
+    fn process_number(&self) -> u64;
+}
+
+impl ProcessNumber for HostRuntime {
+    fn process_number(&self) -> u64 {
+        u64::from(process::id(self.process()))
+    }
+}
+
 // Writes the listing of a folder's pattern.bin and log.bin at the start of a lent buffer.
-pub fn list(folder: &[u8], buffer: &mut [u8]) -> Written
+pub fn list(rt: &impl Files, folder: &[u8], buffer: &mut [u8]) -> Written
     ensures { SomeText Listing buffer.old buffer.new result }
 {
     let mut pattern = [0u8; page::SPACE];
     let mut log = [0u8; page::SPACE];
-    let sizes = read_both(folder, &mut pattern, &mut log);
+    let sizes = read_both(rt, folder, &mut pattern, &mut log);
     let p = sizes.pattern;
     let l = sizes.log;
     listing_text::write(&pattern[..p], &log[..l], buffer)
 }
 
 // Writes what the program `reason` prints for a folder's pattern.bin and log.bin at the start of a lent buffer.
-pub fn reason(folder: &[u8], buffer: &mut [u8]) -> Written
+pub fn reason(rt: &impl Files, folder: &[u8], buffer: &mut [u8]) -> Written
     ensures { SomeText ReasonText buffer.old buffer.new result }
 {
     let mut pattern = [0u8; page::SPACE];
     let mut log = [0u8; page::SPACE];
-    let sizes = read_both(folder, &mut pattern, &mut log);
+    let sizes = read_both(rt, folder, &mut pattern, &mut log);
     let p = sizes.pattern;
     let l = sizes.log;
     reason_text::write(&pattern[..p], &log[..l], buffer)
 }
 
 // Writes what the program `order` prints for a folder's log.bin and its arguments at the start of a lent buffer. Without two numbers no file is read.
-pub fn order(folder: &[u8], pair: Pair, buffer: &mut [u8]) -> Written
+pub fn order(rt: &impl Files, folder: &[u8], pair: Pair, buffer: &mut [u8]) -> Written
     ensures { SomeOrder pair buffer.old buffer.new result }
 {
     match pair {
@@ -57,7 +72,7 @@ pub fn order(folder: &[u8], pair: Pair, buffer: &mut [u8]) -> Written
             second: _,
         } => {
             let mut log = [0u8; page::SPACE];
-            let l = read(folder, b"/log.bin", &mut log);
+            let l = read(rt, folder, b"/log.bin", &mut log);
             order_text::write(&log[..l], pair, buffer)
         }
         Pair::NoNumbers => order_text::write(b"", pair, buffer),
@@ -65,50 +80,69 @@ pub fn order(folder: &[u8], pair: Pair, buffer: &mut [u8]) -> Written
 }
 
 // Reads a folder's pattern.bin and log.bin, each into its own space.
-pub fn read_both(folder: &[u8], pattern: &mut [u8], log: &mut [u8]) -> Sizes
+pub fn read_both(rt: &impl Files, folder: &[u8], pattern: &mut [u8], log: &mut [u8]) -> Sizes
     ensures { IsPrefixLen result.pattern pattern.new × IsPrefixLen result.log log.new }
 {
-    let p = read(folder, b"/pattern.bin", pattern);
-    let l = read(folder, b"/log.bin", log);
+    let p = read(rt, folder, b"/pattern.bin", pattern);
+    let l = read(rt, folder, b"/log.bin", log);
     Sizes { pattern: p, log: l }
 }
 
 // Reads a folder's file to its end, or until the space is full, and answers how many bytes it put at the start of the space.
 // The name starts with a slash. A file that can't be opened or read has none.
-pub fn read(folder: &[u8], name: &[u8], space: &mut [u8]) -> usize
+pub fn read(rt: &impl Files, folder: &[u8], name: &[u8], space: &mut [u8]) -> usize
     ensures { IsPrefixLen result space.new }
 {
-    let fd = open(folder, name);
-    read_opened(0 <= fd, fd, space)
+    let file = open(rt, folder, name);
+    read_opened(file, space)
 }
 
-// Opens a folder's file for reading; below 0 where it can't be opened. The name starts with a slash. No contract can say what the system opens.
-pub fn open(folder: &[u8], name: &[u8]) -> i32 {
+// Opens a folder's file for reading; none where it can't be opened. The name starts with a slash. No contract can say what the system opens.
+pub fn open<R: Files>(rt: &R, folder: &[u8], name: &[u8]) -> Option<R::File> {
     let mut path = io::buffer();
     let start = append(&mut path, 0, folder);
     let end = append(&mut path, start, name);
-    os::open_read(&path[..end])
+    match text(&path[..end]) {
+        Ok(path) => fs::open(rt, path).ok(),
+        Err(_) => None,
+    }
 }
 
 // Reads a file to its end, or until the space is full, and closes it; one that was not opened has no bytes.
-pub fn read_opened(opened: bool, fd: i32, space: &mut [u8]) -> usize
-    ensures { IsPrefixLen result space.new × (opened ≡ false → result ≡ 0) }
+pub fn read_opened<F: Read + Drop>(file: Option<F>, space: &mut [u8]) -> usize
+    ensures { IsPrefixLen result space.new × (file ≡ None → result ≡ 0) }
 {
-    if !opened {
+    let Some(mut file) = file else {
         return 0;
-    }
-    let n = io::read_full(fd, space);
-    libc::close(fd);
-    n
+    };
+    read_full(&mut file, space)
 }
 
-// Writes replay.bin, the log that shows the match, where there is one, and answers whether that went well. What is too long is not judged.
-pub fn save_replay(pattern: &[u8], log: &[u8]) -> bool {
+// Reads until the space is full, the file ends or a read fails, and answers how many bytes it put at the start of the space.
+fn read_full(file: &mut impl Read, space: &mut [u8]) -> usize
+    ensures { IsPrefixLen result space.new }
+{
+    let mut done = 0;
+    while done < space.len() {
+        match file.read(&mut space[done..]) {
+            Ok(0) | Err(_) => break,
+            Ok(n) => done += n,
+        }
+    }
+    done
+}
+
+// Writes replay.bin, the log that shows the match, where there is one. What is too long is not judged. Where it fails, replay.bin is what it was.
+pub fn save_replay<R: Files + ProcessNumber>(
+    rt: &R,
+    pattern: &[u8],
+    log: &[u8],
+) -> std::io::Result<()> {
     if page::LONGEST < pattern.len() {
-        return true;
+        return Ok(());
     }
     if page::LONGEST < log.len() {
-        return true;
+        return Ok(());
     }
     let mut buffer = [0u8; page::SPACE];
     let replayed = replay_log::write(pattern, log, &mut buffer);
@@ -116,50 +150,65 @@ pub fn save_replay(pattern: &[u8], log: &[u8]) -> bool {
     let outcome = judged.outcome;
     let size = replayed.length;
     let Outcome::Match { count: _ } = outcome else {
-        return true;
+        return Ok(());
     };
-    save(b"replay.bin", &buffer[..size])
+    save(rt, b"replay.bin", &buffer[..size])
 }
 
-// Writes load.bin, where a load was made at the start of the space, and answers whether that went well. Where none was made no file is touched.
-pub fn save_load(made: Made, space: &[u8]) -> bool
+// Writes load.bin, where a load was made at the start of the space. Where none was made no file is touched; where it fails, load.bin is what it was.
+pub fn save_load<R: Files + ProcessNumber>(rt: &R, made: Made, space: &[u8]) -> std::io::Result<()>
     requires { LogWithin made space.now }
 {
     match made {
-        Made::Log { size } => save(b"load.bin", &space[..size]),
-        _ => true,
+        Made::Log { size } => save(rt, b"load.bin", &space[..size]),
+        _ => Ok(()),
     }
 }
 
-// Makes the file of this name anew, or replaces it whole, and answers whether it did. Where it did not, what had the name still has it,
-// and errno says why. The bytes go into a spare file beside it, which takes the name once it has all of them, and else is removed.
-pub fn save(name: &[u8], bytes: &[u8]) -> bool {
+// Makes the file of this name anew, or replaces it whole. Where it fails, what had the name still has it, and the error says why.
+// The bytes go into a spare file beside it, which takes the name once it has all of them, and else is removed.
+pub fn save<R: Files + ProcessNumber>(rt: &R, name: &[u8], bytes: &[u8]) -> std::io::Result<()> {
     let mut path = io::buffer();
-    let size = spare_name(name, process_number(libc::getpid()), &mut path);
-    let fd = os::create(&path[..size]);
-    save_made(0 <= fd, fd, &path[..size], name, bytes)
+    let size = spare_name(name, rt.process_number(), &mut path);
+    let spare = text(&path[..size])?;
+    let name = text(name)?;
+    let made = File::create_new(rt, spare);
+    save_made(rt, made, spare, name, bytes)
 }
 
 // As `save`, by a spare file that was made or was not. One that was not made is not removed: its name may be another program's file.
-fn save_made(made: bool, fd: i32, spare: &[u8], name: &[u8], bytes: &[u8]) -> bool
-    ensures { made ≡ false → result ≡ false }
+fn save_made<R: Files>(
+    rt: &R,
+    made: std::io::Result<R::File>,
+    spare: &str,
+    name: &str,
+    bytes: &[u8],
+) -> std::io::Result<()>
+    ensures { IsErr made → IsErr result }
 {
-    if !made {
-        return false;
-    }
-    let saved = fill(fd, bytes) && os::rename(spare, name) == 0;
-    if !saved {
-        // It leaves errno alone where it succeeds, so that errno still says why nothing was saved.
-        os::unlink(spare);
+    let file = match made {
+        Ok(file) => file,
+        Err(error) => return Err(error),
+    };
+    let saved = fill(file, bytes).and_then(|()| fs::rename(rt, spare, name));
+    if saved.is_err() {
+        let _ = fs::remove_file(rt, spare);
     }
     saved
 }
 
-// Writes all the bytes to an open file and closes it. That a disk is full may show at the close alone.
-fn fill(fd: i32, bytes: &[u8]) -> bool {
-    let whole = io::write_all(fd, bytes);
-    let closed = libc::close(fd) == 0;
-    whole && closed
+// Writes all the bytes to an open file and closes it. That a disk is full may show only once they are to lie there.
+fn fill<F: Write + OpenFile + Drop>(mut file: F, bytes: &[u8]) -> std::io::Result<()> {
+    file.write_all(bytes)?;
+    file.sync_all()
+}
+
+// The text that the bytes of a path are.
+fn text(path: &[u8]) -> std::io::Result<&str> {
+    match str::from_utf8(path) {
+        Ok(text) => Ok(text),
+        Err(_) => Err(Error::from(ErrorKind::InvalidFilename)),
+    }
 }
 
 // Puts the name of a spare file at the start of a path, and answers its length: the file's own name, a dot and the process's number,
@@ -174,17 +223,7 @@ fn spare_name(name: &[u8], process: u64, path: &mut [u8]) -> usize
     append(path, number, &figures[..n])
 }
 
-// The number of a process; none is below 0.
-fn process_number(pid: i32) -> u64
-    ensures { (n : ℕ) → pid ≡ pos n → result ≡ n }
-{
-    if 0 <= pid {
-        return pid as u64;
-    }
-    0
-}
-
-// Puts bytes at a place of a path and answers the place after them. Where they don't fit it answers the path's length: `os` refuses a
+// Puts bytes at a place of a path and answers the place after them. Where they don't fit it answers the path's length: the system refuses a
 // path of 4,096 bytes, where one that is cut short would name another file.
 fn append(path: &mut [u8], from: usize, bytes: &[u8]) -> usize
     requires { from ≤ length path.old }
@@ -201,22 +240,30 @@ fn append(path: &mut [u8], from: usize, bytes: &[u8]) -> usize
 }
 
 // Prints what was written at the start of a page, under the name of the program.
-pub fn print_written(program: &[u8], page: &[u8], written: Written)
+pub fn print_written<R: Print + Eprint>(rt: &R, program: &[u8], page: &[u8], written: Written)
     requires { InPage written page.now }
 {
     match written {
-        Written::Next { at } => print(program, &page[..at]),
+        Written::Next { at } => print(rt, program, &page[..at]),
         // A page holds every listing.
         Written::Refused {
             number: _,
             offset: _,
-        } => os::fail(program),
+        } => fail(rt, program, Error::from(ErrorKind::FileTooLarge)),
     }
 }
 
 // Prints a text. Where it can't, the program's name and the reason go to standard error.
-pub fn print(program: &[u8], text: &[u8]) {
-    if !io::write_all(1, text) {
-        os::fail(program);
+pub fn print<R: Print + Eprint>(rt: &R, program: &[u8], text: &[u8]) {
+    if let Err(error) = rt.write_all(text) {
+        fail(rt, program, error);
     }
+}
+
+// Writes a line to standard error: what failed, as the caller names it, a colon and why. Where that can't be written either nothing is said.
+pub fn fail(rt: &impl Eprint, what: &[u8], error: Error) {
+    let _ = match str::from_utf8(what) {
+        Ok(what) => eprintln!(rt; "{what}: {error}"),
+        Err(_) => eprintln!(rt; "{error}"),
+    };
 }

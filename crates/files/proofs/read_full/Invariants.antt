@@ -1,0 +1,9 @@
+-- What falls is the room that is left.
+use Rattle.std.proofs.Common.{◌-◌, ◌≤◌, length}
+use Rattle.files.proofs.read_full.Given as goal
+
+abbrev pub invariant-loop-done : goal.invariant-loop-done
+invariant-loop-done g l = l.done ≤ length l.space
+
+abbrev pub decreases-loop-done : goal.decreases-loop-done
+decreases-loop-done g l = length l.space - l.done
