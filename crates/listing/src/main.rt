@@ -1,8 +1,8 @@
 // Prints the listing of pattern.bin and log.bin, read in the folder where it is run.
 #![tactic(auto)]
 
-fn main() {
+fn main(rt: HostRuntime) {
     let mut page = [0u8; page::ROOM];
-    let written = files::list(b".", &mut page);
-    files::print_written(b"listing", &page, written);
+    let written = files::list(&rt, b".", &mut page);
+    files::print_written(&rt, b"listing", &page, written);
 }
