@@ -13,8 +13,7 @@ use borrow.Author.Tests.{le-leb, lt-leb, eqb-true, eqb-false, ne_eqb}
 use Rattle.session.specs.declared.Session.{Session}
 use Rattle.session_row.specs.declared.RowAnswer.TheVariants.{TooLong}
 use Rattle.session_row.specs.declared.Tally.{Tally}
-use Rattle.session_row.specs.declared.Turned.{Turned}
-use Rattle.session_row.specs.Row.{most, how_many_refused, lowest, number_there, one_on, RowNumbers, numbers_over, too_many, Alone, RowTaken, row_answer_is, row_answer_by, RowAnswered, nothing_yet, tally_with, turned, answer_of}
+use Rattle.session_row.specs.Row.{most, how_many_refused, lowest, number_there, one_on, RowNumbers, numbers_over, too_many, Alone, RowTaken, row_answer_is, row_answer_by, RowAnswered, nothing_yet, tally_with, answer_of}
 
 -- ---- tallies
 
@@ -87,7 +86,7 @@ some_refused (zero ∷ ks) h q = some_refused ks h q
 some_refused (suc k ∷ ks) h q = let f : ⊥ = omega (arith, q) in f
 
 -- the numbers of a tally
-abbrev tallied : Tally → RowNumbers
+abbrev pub tallied : Tally → RowNumbers
 tallied t = record { number = t.number; offset = 0; count = t.count; place = t.place }
 
 -- the case of an answer, by the tally
@@ -165,13 +164,6 @@ module _ {K : Type 0} (alone : K → Alone K) where
   none_taken row h = record { numbers = rw (lt-leb (length row) most h); sessions = rw (lt-leb (length row) most h) }
 
 -- ---- sessions held by value
-
--- what one turn of the loop makes of the row and of the tally
-pub one_turn : (alone : Session → Alone Session) (past : Session) (row now : List Session) (tally : Tally) (i : ℕ) (t : Turned) → now ≡ up_to alone i row
-    → tally ≡ tally_to alone i row → i < length row → t ≡ turned alone tally (get_or now i past) i
-    → (set now i t.session ≡ up_to alone (i + 1) row) × (t.tally ≡ tally_to alone (i + 1) row)
-unfolding turned
-one_turn alone past row now tally i t n l h e = rw (e, n, l, add-one i) (up_to_set alone past i row h, tally_next alone past i row h)
 
 pub all_answered : (alone : Session → Alone Session) (row : List Session) → length row ≤ most → RowAnswered alone row (answer_of (tally_to alone (length row) row)) (up_to alone (length row) row)
 all_answered alone row h =

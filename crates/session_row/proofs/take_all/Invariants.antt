@@ -1,18 +1,11 @@
--- The row and the tally after i turns; what falls is the number of turns left.
-use Rattle.std.proofs.Common.{◌-◌, ◌≡◌, ◌≤◌, length}
-use Rattle.session_row.specs.Row.{most, alone_with}
-use Rattle.session_row.proofs.Model.{up_to, tally_to}
+-- The walk over the row; what falls is the number of turns left.
+use Rattle.std.proofs.Common.{◌-◌, ◌≡◌, length}
+use Rattle.session_row.specs.Row.{alone_with}
+use Rattle.session_row.proofs.Walk.{Walked}
 use Rattle.session_row.proofs.take_all.Given as goal
 
 abbrev pub invariant-loop-i : goal.invariant-loop-i
-invariant-loop-i l =
-    record {
-      turns : l.i ≤ l.n;
-      whole : l.n ≡ length l.initial.row;
-      few : l.n ≤ most;
-      row : l.row ≡ up_to (alone_with l.e) l.i l.initial.row;
-      tally : l.tally ≡ tally_to (alone_with l.e) l.i l.initial.row;
-    }
+invariant-loop-i l = (l.n ≡ length l.initial.row) × Walked (alone_with l.e) l.initial.row l.row l.tally l.i
 
 abbrev pub decreases-loop-i : goal.decreases-loop-i
 decreases-loop-i l = l.n - l.i

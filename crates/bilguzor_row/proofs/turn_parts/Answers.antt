@@ -12,8 +12,7 @@ use Rattle.bilguzor.specs.declared.Parts.{Parts}
 use Rattle.bilguzor_row.specs.declared.TurnedParts.{TurnedParts}
 use Rattle.bilguzor.specs.Sessions.{Takes}
 use Rattle.bilguzor_row.specs.Rows.{handed_numbers, turned_in}
-use Rattle.bilguzor_row.proofs.turn_parts.Statement.{statement}
-use Rattle.bilguzor_row.proofs.turn_parts.Tie as tie
+use Rattle.bilguzor_row.proofs.turn_parts.Goals as goal
 
 -- the turn by what the two calls give
 by_calls : (t : Tally) (p : Parts) (e : EventNumbers) (i : ℕ) (n : Numbers) → n ≡ handed_numbers e → (r : Answer) (after : Parts) → Takes p n r after
@@ -22,12 +21,8 @@ unfolding turned_in
 by_calls t p e i n q r after taken next told-so =
     rw (sym q) (ap₂ (λ (u : Tally) (s : Parts). record { tally = u; session = s }) (told-so ∙ ap (λ (a : Answer). tally_with t a.number i) taken.answer) taken.parts)
 
-returns : tie.Need-returns
-returns c =
-    let a = c.before.before.before.before.before.before.before.before.before.before.before.before.before.args in
+pub returns : goal.returns
+returns c = let a = c.args in
     let e = a.e in
-    let height = to_z-of_z (record { sfits = c.before.before.struct_told.given.1.1.1.0.1 }) in
-    by_calls a.tally a.p e a.i _ (ap (λ (h : ℤ). handed_over e.thread e.operation e.object h) height) _ _ c.before.bilguzor-take.ensures _ c.tell.ensures
-
-pub turn_parts_spec : {M : Type 1} → statement M
-turn_parts_spec = tie.close (tie.spec (λ c κs. search rules) (λ c κs. search rules) returns)
+    let height = to_z-of_z (record { sfits = c.struct_told-1.given.1.1.1.0.1 }) in
+    by_calls a.tally a.p e a.i _ (ap (λ (h : ℤ). handed_over e.thread e.operation e.object h) height) _ _ c.bilguzor_take-answer.ensures _ c.tell-next.ensures
