@@ -85,7 +85,9 @@ pub extern "C" fn bilguzor_take(
 ) -> Answer
     ensures { Takes (lent slots.now size state.old clocks.old table.old taken.old count.old) (handed_over thread operation object height) result (lent slots.now size state.new clocks.new table.new taken.new count.new) }
 {
-    bilguzor::bilguzor_take(slots, size, clocks, table, taken, count, state, thread, operation, object, height)
+    bilguzor::bilguzor_take(
+        slots, size, clocks, table, taken, count, state, thread, operation, object, height,
+    )
 }
 
 // What the session whose parts are lent has found in the events taken so far.

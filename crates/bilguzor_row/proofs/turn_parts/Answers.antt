@@ -2,6 +2,7 @@ use Prim.Native.Nat.{ℕ}
 use mathlib.Core.Path.{◌≡◌, sym, ap, ap₂, ◌∙◌}
 use lib.IntN.{ℤ}
 use mir.Facts.{to_z-of_z}
+use mir.Syntax.{w32}
 use borrow.Author.Rules.{rules}
 use Rattle.session_row.specs.declared.Tally.{Tally}
 use Rattle.session_row.specs.Row.{tally_with}
@@ -22,7 +23,8 @@ by_calls t p e i n q r after taken next told-so =
     rw (sym q) (ap₂ (λ (u : Tally) (s : Parts). record { tally = u; session = s }) (told-so ∙ ap (λ (a : Answer). tally_with t a.number i) taken.answer) taken.parts)
 
 pub returns : goal.returns
-returns c = let a = c.args in
+returns c =
+    let a = c.args in
     let e = a.e in
-    let height = to_z-of_z (record { sfits = c.struct_told-1.given.1.1.1.0.1 }) in
+    let height = to_z-of_z {w = w32} (search rules) in
     by_calls a.tally a.p e a.i _ (ap (λ (h : ℤ). handed_over e.thread e.operation e.object h) height) _ _ c.bilguzor_take-answer.ensures _ c.tell-next.ensures
