@@ -1,0 +1,6 @@
+use borrow.Author.Rules.{rules}
+use Rattle.listings_text.proofs.Watching.{before_all}
+use Rattle.listings_text.proofs.nothing.Goals as goal
+
+pub returns : goal.returns
+returns c = before_all _
