@@ -2,21 +2,21 @@
 #![tactic(auto)]
 
 use load_text::Made;
+use std::io::{Eprint, Print};
 
 // What is printed says that the file is there, so a file that can't be written leaves nothing to print.
-fn main() {
-    let pair = arguments::given_pair();
+fn main(rt: HostRuntime) {
+    let pair = arguments::given_pair(&rt);
     let mut space = [0u8; load_log::ENOUGH];
     let made = load_text::make_load(pair, &mut space);
-    if files::save_load(made, &space) {
-        print(made);
-    } else {
-        os::fail(b"load.bin");
+    match files::save_load(&rt, made, &space) {
+        Ok(()) => print(&rt, made),
+        Err(error) => files::fail(&rt, b"load.bin", error),
     }
 }
 
-fn print(made: Made) {
+fn print<R: Print + Eprint>(rt: &R, made: Made) {
     let mut page = [0u8; page::ROOM];
     let written = load_text::write(made, &mut page);
-    files::print_written(b"load", &page, written);
+    files::print_written(rt, b"load", &page, written);
 }

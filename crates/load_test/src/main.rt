@@ -4,6 +4,8 @@
 
 use arguments::Pair;
 use event_log::LogRead;
+use files::ProcessNumber;
+use std::rt::Files;
 use writer::Written;
 
 // A byte more than any load has, so that what stands behind one is seen.
@@ -12,28 +14,28 @@ const SPACE: usize = load_log::ENOUGH + 1;
 // What the space holds before.
 const BEFORE: u8 = 255;
 
-fn main() {
-    stored(b"/0_0.bin", 0, 0);
-    stored(b"/0_1.bin", 0, 1);
-    stored(b"/0_1000.bin", 0, 1000);
-    stored(b"/0_65535.bin", 0, 65535);
-    stored(b"/1_1.bin", 1, 1);
-    stored(b"/1_1000.bin", 1, 1000);
-    stored(b"/1013904223_64.bin", 1013904223, 64);
-    stored(b"/2147483648_300.bin", 2147483648, 300);
-    stored(b"/4294967295_0.bin", 4294967295, 0);
-    stored(b"/4294967295_1000.bin", 4294967295, 1000);
-    others();
+fn main(rt: HostRuntime) {
+    stored(&rt, b"/0_0.bin", 0, 0);
+    stored(&rt, b"/0_1.bin", 0, 1);
+    stored(&rt, b"/0_1000.bin", 0, 1000);
+    stored(&rt, b"/0_65535.bin", 0, 65535);
+    stored(&rt, b"/1_1.bin", 1, 1);
+    stored(&rt, b"/1_1000.bin", 1, 1000);
+    stored(&rt, b"/1013904223_64.bin", 1013904223, 64);
+    stored(&rt, b"/2147483648_300.bin", 2147483648, 300);
+    stored(&rt, b"/4294967295_0.bin", 4294967295, 0);
+    stored(&rt, b"/4294967295_1000.bin", 4294967295, 1000);
+    others(&rt);
     limits();
-    saved();
+    saved(&rt);
 }
 
 // Another seed, a count one lower, and no file: none is as stored; and the closing 00 of a log is not what the space held: so that both comparisons are seen
 // to fail.
-fn others() {
-    stored(b"/0_1000.bin", 1, 1000);
-    stored(b"/1_1000.bin", 1, 999);
-    stored(b"/none.bin", 0, 0);
+fn others(rt: &impl Files) {
+    stored(rt, b"/0_1000.bin", 1, 1000);
+    stored(rt, b"/1_1000.bin", 1, 999);
+    stored(rt, b"/none.bin", 0, 0);
     let mut space = [BEFORE; SPACE];
     make(0, 1, &mut space);
     console::text(b" from its closing 00 on");
@@ -60,10 +62,10 @@ fn named(seed: u32, count: usize) {
 }
 
 // Makes a load: its length, whether it is the stored log, how many events are read of it, and whether every byte behind it is as it was.
-fn stored(name: &[u8], seed: u32, count: usize) {
+fn stored(rt: &impl Files, name: &[u8], seed: u32, count: usize) {
     let mut space = [BEFORE; SPACE];
     let at = make(seed, count, &mut space);
-    compare(name, &space, at);
+    compare(rt, name, &space, at);
     read(&space, at);
     untouched(&space, at);
 }
@@ -129,36 +131,36 @@ fn tried(seed: u32, count: usize, room: usize) {
 }
 
 // A load that was made is saved over an older one and read again; where none was made the file stays.
-fn saved() {
-    files::save(b"load.bin", b"an older text");
-    save(0, 1000, b"/0_1000.bin");
-    save(4294967295, 65536, b"/0_1000.bin");
-    save(4294967296, 1, b"/0_1000.bin");
-    save(4294967295, 1000, b"/4294967295_1000.bin");
-    save(1, 1000, b"/0_1000.bin");
+fn saved<R: Files + ProcessNumber>(rt: &R) {
+    let _ = files::save(rt, b"load.bin", b"an older text");
+    save(rt, 0, 1000, b"/0_1000.bin");
+    save(rt, 4294967295, 65536, b"/0_1000.bin");
+    save(rt, 4294967296, 1, b"/0_1000.bin");
+    save(rt, 4294967295, 1000, b"/4294967295_1000.bin");
+    save(rt, 1, 1000, b"/0_1000.bin");
 }
 
 // Saves what these arguments ask for: whether that went well, and whether load.bin is then this stored log.
-fn save(first: u64, second: u64, name: &[u8]) {
+fn save<R: Files + ProcessNumber>(rt: &R, first: u64, second: u64, name: &[u8]) {
     console::numbered(b"saved ", first);
     console::numbered(b" ", second);
     let mut space = [BEFORE; SPACE];
-    let well = make_and_save(Pair::Numbers { first, second }, &mut space);
+    let well = make_and_save(rt, Pair::Numbers { first, second }, &mut space);
     tell(well, b": well", b": badly");
-    let k = files::read(b".", b"/load.bin", &mut space);
-    compare(name, &space, k);
+    let k = files::read(rt, b".", b"/load.bin", &mut space);
+    compare(rt, name, &space, k);
     console::text(b"\n");
 }
 
-fn make_and_save(pair: Pair, space: &mut [u8]) -> bool {
+fn make_and_save<R: Files + ProcessNumber>(rt: &R, pair: Pair, space: &mut [u8]) -> bool {
     let made = load_text::make_load(pair, space);
-    files::save_load(made, space)
+    files::save_load(rt, made, space).is_ok()
 }
 
 // Whether the first bytes of the space are a stored log.
-fn compare(name: &[u8], space: &[u8], size: usize) {
+fn compare(rt: &impl Files, name: &[u8], space: &[u8], size: usize) {
     let mut due = [0u8; SPACE];
-    let n = files::read(b".", name, &mut due);
+    let n = files::read(rt, b".", name, &mut due);
     let same = console::starts_with(space, size, &due[..n]);
     tell(same, b", as stored", b", NOT AS STORED");
 }

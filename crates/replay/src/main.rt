@@ -2,30 +2,33 @@
 // it is run.
 #![tactic(auto)]
 
-fn main() {
-    if 1 < os::arg_count() {
-        files::print(b"replay", b"usage: replay\n");
+use files::ProcessNumber;
+use std::io::{Eprint, Print};
+use std::rt::Files;
+
+fn main(rt: HostRuntime) {
+    if 1 < arguments::arg_count(&rt) {
+        files::print(&rt, b"replay", b"usage: replay\n");
         return;
     }
     let mut pattern = [0u8; page::SPACE];
     let mut log = [0u8; page::SPACE];
-    let sizes = files::read_both(b".", &mut pattern, &mut log);
+    let sizes = files::read_both(&rt, b".", &mut pattern, &mut log);
     let p = sizes.pattern;
     let l = sizes.log;
-    replay(&pattern[..p], &log[..l]);
+    replay(&rt, &pattern[..p], &log[..l]);
 }
 
 // What is printed says that the file is there, so a file that can't be written leaves nothing to print.
-fn replay(pattern: &[u8], log: &[u8]) {
-    if files::save_replay(pattern, log) {
-        print(pattern, log);
-    } else {
-        os::fail(b"replay.bin");
+fn replay<R: Files + ProcessNumber + Print + Eprint>(rt: &R, pattern: &[u8], log: &[u8]) {
+    match files::save_replay(rt, pattern, log) {
+        Ok(()) => print(rt, pattern, log),
+        Err(error) => files::fail(rt, b"replay.bin", error),
     }
 }
 
-fn print(pattern: &[u8], log: &[u8]) {
+fn print<R: Print + Eprint>(rt: &R, pattern: &[u8], log: &[u8]) {
     let mut page = [0u8; page::ROOM];
     let written = listing_text::write(pattern, log, &mut page);
-    files::print_written(b"replay", &page, written);
+    files::print_written(rt, b"replay", &page, written);
 }
