@@ -1,3 +1,4 @@
 pub mod Halves
 pub mod Tenths
+pub mod Remainders
 pub mod MinusZero
