@@ -11,7 +11,7 @@ use Rattle.verdict_reason.specs.Reasons.{Stated, cause_is, ReasonOf}
 use Rattle.replay_log.specs.Replay.{ReplayOf}
 use Rattle.relation.specs.declared.Relation.{Relation}
 use Rattle.relation.specs.declared.Relation.TheVariants.{Same, Before, After, Free}
-use Rattle.order_query.specs.Query.{OrderAnswer, related, log_refused, query-refused, Answers}
+use Rattle.order_query.specs.Query.{OrderAnswer, related, log_refused, query_refused, Answers}
 use Rattle.bilguzor.specs.declared.Judgement.{Judgement}
 use Rattle.bilguzor.specs.declared.Reasoned.{Reasoned}
 use Rattle.bilguzor.specs.declared.Replayed.{Replayed}
@@ -81,7 +81,7 @@ relation_kind Free = 8
 abbrev pub ordering_of : OrderAnswer → Ordering
 ordering_of (related r) = record { kind = relation_kind r; number = 0; offset = 0 }
 ordering_of (log_refused k o) = record { kind = 3; number = k; offset = o }
-ordering_of (query-refused k o) = record { kind = 4; number = k; offset = o }
+ordering_of (query_refused k o) = record { kind = 4; number = k; offset = o }
 
 -- "An order query takes a log and two event numbers": its outcome, in numbers
 pub record OrderNumbers (log : List ℕ) (first second : ℕ) (r : Ordering) : Type 0 where

@@ -8,7 +8,7 @@ use Rattle.event.specs.declared.Event.{Event}
 use Rattle.trace.specs.First.{Smaller}
 use Rattle.event_log.specs.Whole.{read_log, accepted}
 use Rattle.order_rows.specs.Rows.{order_places, order_row}
-use Rattle.orders_log.specs.OrderCalls.{IsOrder, Giving, order, last, log_refused, orders-refused, NextGives, SaysSo, Called, first_call, next_call, GivesEveryOrder}
+use Rattle.orders_log.specs.OrderCalls.{IsOrder, Giving, order, last, log_refused, orders_refused, NextGives, SaysSo, Called, first_call, next_call, GivesEveryOrder}
 use Rattle.orders_log.proofs.EveryOrder.{row_one, every_order}
 use Rattle.orders_log.proofs.Rising.{row_rises}
 use Rattle.bilguzor_orders.specs.declared.OrderRow.{OrderRow}
@@ -19,7 +19,7 @@ of_kind_lem : (a : Giving) → (order_numbers a).kind ≡ 9 → (o : List ℕ) �
 of_kind_lem (order o) t = (o, refl)
 of_kind_lem last t = absurd (let z : ◌≡◌ {A = ℕ} 10 9 = t in let f : ⊥ = omega arith in f)
 of_kind_lem (log_refused k o) t = absurd (let z : ◌≡◌ {A = ℕ} 3 9 = t in let f : ⊥ = omega arith in f)
-of_kind_lem (orders-refused k o) t = absurd (let z : ◌≡◌ {A = ℕ} 4 9 = t in let f : ⊥ = omega arith in f)
+of_kind_lem (orders_refused k o) t = absurd (let z : ◌≡◌ {A = ℕ} 4 9 = t in let f : ⊥ = omega arith in f)
 
 module _ (bytes : List ℕ) where
   -- what an answer says

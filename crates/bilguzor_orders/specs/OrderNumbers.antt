@@ -5,7 +5,7 @@ use Rattle.trace.specs.First.{Smaller}
 use Rattle.order_rows.specs.Rows.{order_places, order_row}
 use Rattle.orders_log.specs.declared.Given.{Given}
 use Rattle.orders_log.specs.declared.Given.TheVariants as case
-use Rattle.orders_log.specs.OrderCalls.{IsOrder, Giving, order, last, log_refused, orders-refused, IsRow, FirstGives, NextGives, SaysSo}
+use Rattle.orders_log.specs.OrderCalls.{IsOrder, Giving, order, last, log_refused, orders_refused, IsRow, FirstGives, NextGives, SaysSo}
 use Rattle.bilguzor_orders.specs.declared.OrderRow.{OrderRow}
 
 -- "places beyond the log's events are 0, and all are 0 after the last"; a kind of its own says which; after a refusal "other fields 0"
@@ -13,7 +13,7 @@ abbrev pub order_numbers : Giving → OrderRow
 order_numbers (order o) = record { kind = 9; number = 0; events = order_row o; offset = 0 }
 order_numbers last = record { kind = 10; number = 0; events = replicate order_places 0; offset = 0 }
 order_numbers (log_refused k o) = record { kind = 3; number = k; events = replicate order_places 0; offset = o }
-order_numbers (orders-refused k o) = record { kind = 4; number = k; events = replicate order_places 0; offset = o }
+order_numbers (orders_refused k o) = record { kind = 4; number = k; events = replicate order_places 0; offset = o }
 
 -- the same by the case of an answer, and its row
 abbrev pub case_numbers : Given → List ℕ → OrderRow

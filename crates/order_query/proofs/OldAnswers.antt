@@ -36,7 +36,7 @@ module _ {bytes : List ℕ} {i j : ℕ} where
   -- and an old answer goes with one that is given now
   now_given : {y : YesOrNo} → AnswersYesOrNo bytes i j y → (a : OrderAnswer) × Answers bytes i j a × (old_answer a ≡ y)
   now_given (old.refused_log r) = (now.log_refused _ _, now.refused_log r, refl)
-  now_given (old.no_number r x) = (now.query-refused 16 0, now.no_number r x, refl)
+  now_given (old.no_number r x) = (now.query_refused 16 0, now.no_number r x, refl)
   now_given (old.before {es = es} r u v c) = go ((yes_is_same_or_before es (at_numbered no_event es i u)).0 c)
     where
       go : Relates es i j Same ⊎ Relates es i j Before → (a : OrderAnswer) × Answers bytes i j a × (old_answer a ≡ yes)

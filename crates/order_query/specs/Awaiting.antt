@@ -4,7 +4,7 @@ use Rattle.clock.specs.declared.Stamp.{Stamp}
 use Rattle.clock.specs.Clocks.{no_stamp, count_of}
 use Rattle.relation.specs.Compared.{compared}
 use Rattle.order_query.specs.declared.Awaited.{Awaited}
-use Rattle.order_query.specs.Query.{OrderAnswer, related, query-refused}
+use Rattle.order_query.specs.Query.{OrderAnswer, related, query_refused}
 
 -- an event waited for by its number, before any has passed
 abbrev pub not_yet : ℕ → Awaited
@@ -21,4 +21,4 @@ is_number n count = ltb 0 n && leb n count
 -- the answer at the end of a log of so many events
 abbrev pub answer_at : Awaited → Awaited → ℕ → OrderAnswer
 answer_at a b count =
-    cond (is_number a.number count && is_number b.number count) (related (compared a.event b.event)) (query-refused 16 0)
+    cond (is_number a.number count && is_number b.number count) (related (compared a.event b.event)) (query_refused 16 0)

@@ -11,13 +11,13 @@ use Rattle.order_query.specs.declared.Order.TheVariants as case
 -- the outcome: how the first event stands to the second, a refusal of the log, or one of the query; each refusal with its number and offset
 pub data OrderAnswer : Type 0 where
   related : Relation → OrderAnswer
-  log_refused query-refused : ℕ → ℕ → OrderAnswer
+  log_refused query_refused : ℕ → ℕ → OrderAnswer
 
 -- which outcome each case of the program's answer stands for
 abbrev pub order_is : Order → OrderAnswer
 order_is (case.Related r) = related r
 order_is (case.LogRefused k o) = log_refused k o
-order_is (case.QueryRefused k o) = query-refused k o
+order_is (case.QueryRefused k o) = query_refused k o
 
 -- the number of an event of the list: "Events are numbered from 1"
 abbrev pub IsNumber : List Event → ℕ → Type 0
@@ -27,5 +27,5 @@ IsNumber es i = (0 < i) × (i ≤ length es)
 -- "16 | after the log passes: an event number of 0 or above its count; offset 0"; then how the first event stands to the second
 pub data Answers (bytes : List ℕ) (i j : ℕ) : OrderAnswer → Type 0 where
   refused_log : {k o : ℕ} → read_log bytes ≡ refused k o → Answers bytes i j (log_refused k o)
-  no_number : {es : List Event} → read_log bytes ≡ accepted es → ¬ (IsNumber es i × IsNumber es j) → Answers bytes i j (query-refused 16 0)
+  no_number : {es : List Event} → read_log bytes ≡ accepted es → ¬ (IsNumber es i × IsNumber es j) → Answers bytes i j (query_refused 16 0)
   relates : {es : List Event} {r : Relation} → read_log bytes ≡ accepted es → IsNumber es i → IsNumber es j → Relates es i j r → Answers bytes i j (related r)

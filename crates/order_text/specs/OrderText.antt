@@ -5,7 +5,7 @@ use Rattle.page.specs.Text.{ascii}
 use Rattle.page.specs.Lines.{longest, refusal_line, too_long_line}
 use Rattle.relation.specs.declared.Relation.{Relation}
 use Rattle.relation.specs.declared.Relation.TheVariants.{Same, Before, After, Free}
-use Rattle.order_query.specs.Query.{OrderAnswer, related, log_refused, query-refused, Answers}
+use Rattle.order_query.specs.Query.{OrderAnswer, related, log_refused, query_refused, Answers}
 
 -- "`same`, `before`, `after` or `free`"; "Each line ends in a line feed."
 abbrev pub relation_line : Relation → List ℕ
@@ -18,7 +18,7 @@ relation_line Free = ascii "free\n"
 abbrev pub answer_line : OrderAnswer → List ℕ
 answer_line (related r) = relation_line r
 answer_line (log_refused k o) = refusal_line k o
-answer_line (query-refused k o) = refusal_line k o
+answer_line (query_refused k o) = refusal_line k o
 
 -- "`usage: ` and its usage as in the table"
 abbrev pub usage_line : List ℕ

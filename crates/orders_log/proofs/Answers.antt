@@ -27,7 +27,7 @@ use Rattle.enumeration.proofs.OrderLists.{first_is, next_is, order_sized}
 use Rattle.order_rows.specs.Rows.{order_places}
 use Rattle.order_rows.proofs.Walks.{drop_step}
 use Rattle.orders_log.specs.declared.GivenRow.{GivenRow}
-use Rattle.orders_log.specs.OrderCalls.{IsRow, Giving, afterwards, log_refused, orders-refused, refused_log, long_log, FirstGives, first, NextAmongEvents, no_order, after, NextGives, short_log, first_of, given_of, SaysSo, GivesSo}
+use Rattle.orders_log.specs.OrderCalls.{IsRow, Giving, afterwards, log_refused, orders_refused, refused_log, long_log, FirstGives, first, NextAmongEvents, no_order, after, NextGives, short_log, first_of, given_of, SaysSo, GivesSo}
 use Rattle.orders_log.proofs.Rows.{Zeros}
 
 -- ---- places that hold 0
@@ -96,9 +96,9 @@ first_given bytes n (es, p, q) e = record { what = first_of n; so = by_test (ltb
     short : ltb order_places n ≡ false → FirstGives bytes (first_of n)
     short f = rw (f, q) (first p (let h = ltb-false order_places n f in omega arith) (first_is no_event dependent es))
 
-pub long_next : (bytes row : List ℕ) (es : List Event) {r : GivenRow} → read_log bytes ≡ accepted es → order_places < length es → r ≡ given_of (orders-refused 25 0)
+pub long_next : (bytes row : List ℕ) (es : List Event) {r : GivenRow} → read_log bytes ≡ accepted es → order_places < length es → r ≡ given_of (orders_refused 25 0)
     → GivesSo (NextGives bytes row) r
-long_next bytes row es p l e = record { what = orders-refused 25 0; so = NextGives.unlisted (long_log p l); answer = e }
+long_next bytes row es p l e = record { what = orders_refused 25 0; so = NextGives.unlisted (long_log p l); answer = e }
 
 pub next_given : (bytes row : List ℕ) (es : List Event) {r : GivenRow} → read_log bytes ≡ accepted es → length es ≤ order_places → GivesSo (NextAmongEvents es row) r
     → GivesSo (NextGives bytes row) r
@@ -119,5 +119,5 @@ next_order_lem es row few (o, h, e) f =
       answer = f (next_order (length es) (dep_at no_event dependent es) o) (rw t);
     }
 
-pub no_row_given : (es : List Event) (row : List ℕ) → ¬ IsRow es row → {r : GivenRow} → r ≡ given_of (orders-refused 26 0) → GivesSo (NextAmongEvents es row) r
-no_row_given es row d e = record { what = orders-refused 26 0; so = no_order d; answer = e }
+pub no_row_given : (es : List Event) (row : List ℕ) → ¬ IsRow es row → {r : GivenRow} → r ≡ given_of (orders_refused 26 0) → GivesSo (NextAmongEvents es row) r
+no_row_given es row d e = record { what = orders_refused 26 0; so = no_order d; answer = e }

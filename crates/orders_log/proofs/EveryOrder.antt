@@ -23,7 +23,7 @@ use Rattle.enumeration.specs.Orders.{NextAmong, InTurn}
 use Rattle.enumeration.specs.Computed.{next_order}
 use Rattle.enumeration.proofs.OrderLists.{first_is, next_is, orders_given, match_given, order_sized}
 use Rattle.order_rows.specs.Rows.{order_places, order_row}
-use Rattle.orders_log.specs.OrderCalls.{IsOrder, Giving, order, last, log_refused, orders-refused, afterwards, refused_log, long_log, FirstGives, first, NextAmongEvents, no_order, after, NextGives, short_log, Called, first_call, next_call, GivesEveryOrder}
+use Rattle.orders_log.specs.OrderCalls.{IsOrder, Giving, order, last, log_refused, orders_refused, afterwards, refused_log, long_log, FirstGives, first, NextAmongEvents, no_order, after, NextGives, short_log, Called, first_call, next_call, GivesEveryOrder}
 
 -- ---- what is given says what it says
 
@@ -31,7 +31,7 @@ abbrev pub is_order : Giving → Bool
 is_order (order o) = true
 is_order last = false
 is_order (log_refused k o) = false
-is_order (orders-refused k o) = false
+is_order (orders_refused k o) = false
 
 pub afterwards_one : (r s : Option (List ℕ)) → afterwards r ≡ afterwards s → r ≡ s
 afterwards_one (some o) (some q) e = ap some (let h : o ≡ q = cc in h)

@@ -21,7 +21,7 @@ use Rattle.order_rows.specs.Rows.{order_places, order_row}
 use Rattle.orders_log.specs.declared.Given.{Given}
 use Rattle.orders_log.specs.declared.Given.TheVariants as case
 use Rattle.orders_log.specs.declared.GivenRow.{GivenRow}
-use Rattle.orders_log.specs.OrderCalls.{IsOrder, Giving, order, last, log_refused, orders-refused, FirstGives, first, no_order, after, NextAmongEvents, NextGives, short_log, refused_log, long_log, given_of, GivesSo}
+use Rattle.orders_log.specs.OrderCalls.{IsOrder, Giving, order, last, log_refused, orders_refused, FirstGives, first, no_order, after, NextAmongEvents, NextGives, short_log, refused_log, long_log, given_of, GivesSo}
 use Rattle.orders_log.proofs.EveryOrder.{is_order, afterwards_one}
 
 -- ---- rows as numbers in base 9
@@ -103,4 +103,4 @@ nearer bytes r s t g = subst (λ x. distance x < distance r) (sym g.answer) (by 
     by (order q) n = let h = next_rises n q refl in rw far (let a = h.0 in let b = h.1 in omega arith)
     by last n = rw far (omega arith)
     by (log_refused k o) n = rw far (omega arith)
-    by (orders-refused k o) n = rw far (omega arith)
+    by (orders_refused k o) n = rw far (omega arith)

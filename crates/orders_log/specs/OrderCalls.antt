@@ -18,7 +18,7 @@ IsOrder es o = orders.IsOrder dependent es o
 pub data Giving : Type 0 where
   order : List ℕ → Giving
   last : Giving
-  log_refused orders-refused : ℕ → ℕ → Giving
+  log_refused orders_refused : ℕ → ℕ → Giving
 
 -- the one after a given order, or that there is none
 abbrev pub afterwards : Option (List ℕ) → Giving
@@ -32,7 +32,7 @@ IsRow es row = (o : List ℕ) × IsOrder es o × (row ≡ order_row o)
 -- "25, a log of more than 8 events"; "Both are checked after the log, in that order, with offset 0."
 pub data Unlisted (bytes : List ℕ) : Giving → Type 0 where
   refused_log : {k o : ℕ} → read_log bytes ≡ refused k o → Unlisted bytes (log_refused k o)
-  long_log : {es : List Event} → read_log bytes ≡ accepted es → order_places < length es → Unlisted bytes (orders-refused 25 0)
+  long_log : {es : List Event} → read_log bytes ≡ accepted es → order_places < length es → Unlisted bytes (orders_refused 25 0)
 
 -- "a call gives the first order": a log's bytes, and what is given
 pub data FirstGives (bytes : List ℕ) : Giving → Type 0 where
@@ -42,7 +42,7 @@ pub data FirstGives (bytes : List ℕ) : Giving → Type 0 where
 
 -- "the one after a given order, or says that it was the last"; "26, a given list that is no reachable order": at most eight events, the list, and what is given
 pub data NextAmongEvents (es : List Event) (row : List ℕ) : Giving → Type 0 where
-  no_order : ¬ IsRow es row → NextAmongEvents es row (orders-refused 26 0)
+  no_order : ¬ IsRow es row → NextAmongEvents es row (orders_refused 26 0)
   after : {o : List ℕ} {r : Option (List ℕ)} → IsOrder es o → row ≡ order_row o → orders.NextAmong (IsOrder es) o r
       → NextAmongEvents es row (afterwards r)
 
@@ -55,14 +55,14 @@ pub data NextGives (bytes row : List ℕ) : Giving → Type 0 where
 
 -- what the first call gives for a log of so many events
 abbrev pub first_of : ℕ → Giving
-first_of n = cond (ltb order_places n) (orders-refused 25 0) (order (run 1 n))
+first_of n = cond (ltb order_places n) (orders_refused 25 0) (order (run 1 n))
 
 -- "places beyond the log's events are 0, and all are 0 after the last"; after a refusal too, "other fields 0"
 abbrev pub given_of : Giving → GivenRow
 given_of (order o) = record { given = case.Order; row = order_row o }
 given_of last = record { given = case.Last; row = replicate order_places 0 }
 given_of (log_refused k o) = record { given = case.LogRefused k o; row = replicate order_places 0 }
-given_of (orders-refused k o) = record { given = case.OrdersRefused k o; row = replicate order_places 0 }
+given_of (orders_refused k o) = record { given = case.OrdersRefused k o; row = replicate order_places 0 }
 
 -- an answer says, in its own form, something that is so
 pub record SaysSo {A : Type 0} (form : Giving → A) (So : Giving → Type 0) (r : A) : Type 0 where

@@ -9,7 +9,7 @@ ghost use Rattle.event.specs.Places.{in_places};
 ghost use Rattle.event_log.specs.Whole.{read_log, accepted};
 ghost use Rattle.enumeration.specs.Computed.{ordered};
 ghost use Rattle.order_rows.specs.Rows.{order_places, dependent_in, next_row};
-ghost use Rattle.orders_log.specs.OrderCalls.{IsRow, orders-refused, afterwards, NextAmongEvents, FirstGives, NextGives, first_of, given_of, GivesSo};
+ghost use Rattle.orders_log.specs.OrderCalls.{IsRow, orders_refused, afterwards, NextAmongEvents, FirstGives, NextGives, first_of, given_of, GivesSo};
 
 use event::{Event, Operation};
 use event_log::LogRead;
@@ -58,7 +58,7 @@ fn first_of(events: usize) -> GivenRow
 }
 
 fn long_log() -> GivenRow
-    ensures { result ≡ given_of (orders-refused 25 0) }
+    ensures { result ≡ given_of (orders_refused 25 0) }
 {
     no_row(Given::OrdersRefused {
         number: 25,

@@ -7,7 +7,7 @@ use Rattle.order_rows.specs.Rows.{order_places}
 use Rattle.orders_log.specs.declared.Given.{Given}
 use Rattle.orders_log.specs.declared.Given.TheVariants as case
 use Rattle.orders_log.specs.declared.GivenRow.{GivenRow}
-use Rattle.orders_log.specs.OrderCalls.{Giving, order, last, log_refused, orders-refused, given_of, FirstGives, GivesSo}
+use Rattle.orders_log.specs.OrderCalls.{Giving, order, last, log_refused, orders_refused, given_of, FirstGives, GivesSo}
 
 -- "event numbers with a space between them": the number at a place, counted from 0, with a space before it where it is not the first
 abbrev pub at_place : ℕ → ℕ → List ℕ
@@ -27,7 +27,7 @@ abbrev pub giving_line : Giving → List ℕ
 giving_line (order o) = order_line o
 giving_line last = []
 giving_line (log_refused k o) = refusal_line k o
-giving_line (orders-refused k o) = refusal_line k o
+giving_line (orders_refused k o) = refusal_line k o
 
 -- the same by the answer: an order's numbers are those before the first 0, of so many places from one on
 unfoldable pub numbers_before_zero : List ℕ → ℕ → ℕ → List ℕ
