@@ -4,43 +4,45 @@
 #![tactic(auto)]
 
 use arguments::Pair;
+use files::ProcessNumber;
+use std::rt::{Env, Files};
 use writer::Written;
 
 const NAMES: usize = 64;
 
-fn main() {
+fn main(rt: HostRuntime) {
     no_match();
-    saved();
-    replayed(b"panel");
-    ordered();
-    many();
-    examples();
+    saved(&rt);
+    replayed(&rt, b"panel");
+    ordered(&rt);
+    many(&rt);
+    examples(&rt);
 }
 
 // Every kind of line, and gaps between the numbers; more than one batch of events; what a refused log, a long one, a long pattern, and none at all leave of them.
-fn many() {
-    lines(b"many");
-    lines(b"many_batches");
-    lines(b"many_refused");
-    lines(b"many_past_the_limit");
-    lines(b"many_long_pattern");
-    lines(b"many_without_log");
-    lines(b"many_without_patterns");
+fn many(rt: &impl Files) {
+    lines(rt, b"many");
+    lines(rt, b"many_batches");
+    lines(rt, b"many_refused");
+    lines(rt, b"many_past_the_limit");
+    lines(rt, b"many_long_pattern");
+    lines(rt, b"many_without_log");
+    lines(rt, b"many_without_patterns");
 }
 
-fn lines(folder: &[u8]) {
+fn lines(rt: &impl Files, folder: &[u8]) {
     let mut page = [0u8; page::ROOM];
-    let written = pattern_files::listings(folder, &mut page);
+    let written = pattern_files::listings(rt, folder, &mut page);
     io::write_all(1, folder);
-    compare(folder, written, &page);
+    compare(rt, folder, written, &page);
 }
 
 // Their folders are named after two numbers.
-fn examples() {
-    let count = os::arg_count();
+fn examples<R: Env + Files>(rt: &R) {
+    let count = arguments::arg_count(rt);
     for n in 3..NAMES {
         if n < count {
-            example(n);
+            example(rt, n);
         }
     }
 }
@@ -54,100 +56,100 @@ fn no_match() {
 }
 
 // A file that is saved over an older one has the new bytes; where there is no folder for it nothing is saved.
-fn saved() {
+fn saved<R: Files + ProcessNumber>(rt: &R) {
     let mut space = [0u8; NAMES];
-    let older = files::save(b"saved", b"an older text");
-    let newer = files::save(b"saved", b"a text");
-    let nowhere = files::save(b"no_folder/saved", b"a text");
-    let k = files::read(b".", b"/saved", &mut space);
+    let older = files::save(rt, b"saved", b"an older text").is_ok();
+    let newer = files::save(rt, b"saved", b"a text").is_ok();
+    let nowhere = files::save(rt, b"no_folder/saved", b"a text").is_ok();
+    let k = files::read(rt, b".", b"/saved", &mut space);
     io::write_all(1, b"a file saved");
     verdict(older & newer & !nowhere & console::starts_with(&space, k, b"a text"));
 }
 
 // What is saved as the replay of an example is what its file `replayed` has.
-fn replayed(folder: &[u8]) {
+fn replayed<R: Files + ProcessNumber>(rt: &R, folder: &[u8]) {
     let mut pattern = [0u8; NAMES];
     let mut log = [0u8; NAMES];
-    let sizes = files::read_both(folder, &mut pattern, &mut log);
+    let sizes = files::read_both(rt, folder, &mut pattern, &mut log);
     let p = sizes.pattern;
     let l = sizes.log;
-    let made = files::save_replay(&pattern[..p], &log[..l]);
+    let made = files::save_replay(rt, &pattern[..p], &log[..l]).is_ok();
     io::write_all(1, folder);
     io::write_all(1, b" replayed");
-    verdict(made & replay_is(folder));
+    verdict(made & replay_is(rt, folder));
 }
 
-fn replay_is(folder: &[u8]) -> bool {
+fn replay_is(rt: &impl Files, folder: &[u8]) -> bool {
     let mut due = [0u8; NAMES];
     let mut space = [0u8; NAMES];
-    let n = files::read(folder, b"/replayed", &mut due);
-    let k = files::read(b".", b"/replay.bin", &mut space);
+    let n = files::read(rt, folder, b"/replayed", &mut due);
+    let k = files::read(rt, b".", b"/replay.bin", &mut space);
     console::starts_with(&space, k, &due[..n])
 }
 
 // All four answers; an event that is not there; a log that is refused, missing, just short enough, too long. The program's own arguments begin with
 // two numbers and are too many, so that the usage is printed.
-fn ordered() {
-    asked(b"panel", 1, 2, b"before\n");
-    asked(b"panel", 2, 1, b"after\n");
-    asked(b"panel", 2, 2, b"same\n");
-    asked(b"panel", 1, 3, b"free\n");
-    asked(b"panel", 1, 4, b"refused 16 at 0\n");
-    asked(b"held_by_another", 0, 9, b"refused 11 at 3\n");
-    asked(b"missing_log", 1, 1, b"refused 4 at 0\n");
-    asked(b"at_the_limit", 1, 1, b"same\n");
-    asked(b"past_the_limit", 1, 1, b"too long\n");
-    let pair = arguments::given_pair();
-    order(b"past_the_limit", pair, b"usage: order FIRST SECOND\n");
+fn ordered<R: Env + Files>(rt: &R) {
+    asked(rt, b"panel", 1, 2, b"before\n");
+    asked(rt, b"panel", 2, 1, b"after\n");
+    asked(rt, b"panel", 2, 2, b"same\n");
+    asked(rt, b"panel", 1, 3, b"free\n");
+    asked(rt, b"panel", 1, 4, b"refused 16 at 0\n");
+    asked(rt, b"held_by_another", 0, 9, b"refused 11 at 3\n");
+    asked(rt, b"missing_log", 1, 1, b"refused 4 at 0\n");
+    asked(rt, b"at_the_limit", 1, 1, b"same\n");
+    asked(rt, b"past_the_limit", 1, 1, b"too long\n");
+    let pair = arguments::given_pair(rt);
+    order(rt, b"past_the_limit", pair, b"usage: order FIRST SECOND\n");
 }
 
-fn asked(folder: &[u8], first: u64, second: u64, due: &[u8]) {
+fn asked(rt: &impl Files, folder: &[u8], first: u64, second: u64, due: &[u8]) {
     let pair = Pair::Numbers { first, second };
-    order(folder, pair, due);
+    order(rt, folder, pair, due);
 }
 
-fn order(folder: &[u8], pair: Pair, due: &[u8]) {
+fn order(rt: &impl Files, folder: &[u8], pair: Pair, due: &[u8]) {
     let mut page = [0u8; page::ROOM];
-    let written = files::order(folder, pair, &mut page);
+    let written = files::order(rt, folder, pair, &mut page);
     io::write_all(1, folder);
     io::write_all(1, b" order");
     verdict(holds(written, &page, due));
 }
 
 // The example whose folder is the n-th argument.
-fn example(n: usize) {
+fn example<R: Env + Files>(rt: &R, n: usize) {
     let mut space = [0u8; NAMES];
-    let size = os::arg(n, &mut space);
-    listing(&space[..size]);
-    reason(&space[..size]);
+    let size = arguments::arg(rt, n, &mut space);
+    listing(rt, &space[..size]);
+    reason(rt, &space[..size]);
 }
 
-fn listing(folder: &[u8]) {
+fn listing(rt: &impl Files, folder: &[u8]) {
     let mut page = [0u8; page::ROOM];
-    let written = files::list(folder, &mut page);
+    let written = files::list(rt, folder, &mut page);
     io::write_all(1, folder);
-    compare(folder, written, &page);
+    compare(rt, folder, written, &page);
 }
 
 // Where the folder has a file `reasoned` that is what is printed, and else the listing.
-fn reason(folder: &[u8]) {
+fn reason(rt: &impl Files, folder: &[u8]) {
     let mut page = [0u8; page::ROOM];
     let mut due = [0u8; page::ROOM];
-    let written = files::reason(folder, &mut page);
-    let k = files::read(folder, b"/reasoned", &mut due);
+    let written = files::reason(rt, folder, &mut page);
+    let k = files::read(rt, folder, b"/reasoned", &mut due);
     io::write_all(1, folder);
     io::write_all(1, b" reason");
     if k == 0 {
-        compare(folder, written, &page);
+        compare(rt, folder, written, &page);
     } else {
         verdict(holds(written, &page, &due[..k]));
     }
 }
 
 // Whether what was written is what the folder's file `printed` has.
-fn compare(folder: &[u8], written: Written, page: &[u8]) {
+fn compare(rt: &impl Files, folder: &[u8], written: Written, page: &[u8]) {
     let mut printed = [0u8; page::ROOM];
-    let k = files::read(folder, b"/printed", &mut printed);
+    let k = files::read(rt, folder, b"/printed", &mut printed);
     verdict(holds(written, page, &printed[..k]));
 }
 

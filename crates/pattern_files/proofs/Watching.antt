@@ -4,8 +4,7 @@ use mathlib.Core.Path.{◌≡◌, ap, ◌∙◌}
 use mathlib.Core.List.{List, [], ◌∷◌, ◌++◌}
 use lib.ListN.{length, length-append}
 use Rattle.listings_text.specs.declared.Watched.{Watched}
-use Rattle.listings_text.specs.Listings.{File, absent, holds}
-use Rattle.listings_text.specs.Watched.{WatchedOf}
+use Rattle.listings_text.specs.Listings.{File, absent}
 use Rattle.listings_text.proofs.Watching.{none_opened}
 use Rattle.pattern_files.specs.SomeFiles.{Watching}
 
@@ -14,7 +13,3 @@ one_more files f q = length-append files (f ∷ []) ∙ ap (λ (n : ℕ). n + 1)
 
 pub not_there : {k : ℕ} {w : Watched} → Watching k w → Watching (k + 1) w
 not_there {w = w} h = record { files = h.files ++ (absent ∷ []); many = one_more h.files absent h.many; kept = none_opened h.files w h.kept }
-
-pub is_there : {k : ℕ} {w after : Watched} {bytes : List ℕ} → Watching k w
-    → ((files : List File) → WatchedOf files w → length files ≡ k → WatchedOf (files ++ (holds bytes ∷ [])) after) → Watching (k + 1) after
-is_there {bytes = bytes} h add = record { files = h.files ++ (holds bytes ∷ []); many = one_more h.files (holds bytes) h.many; kept = add h.files h.kept h.many }

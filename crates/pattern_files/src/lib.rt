@@ -9,41 +9,42 @@ ghost use Rattle.listings_text.specs.Listings.{file_name};
 ghost use Rattle.pattern_files.specs.SomeFiles.{Watching, SomeListings};
 
 use listings_text::Watched;
+use std::rt::Files;
 use writer::Written;
 
 // Writes what the program `listings` prints for a folder's pattern01.bin to pattern16.bin and its log.bin at the start of a lent buffer.
-pub fn listings(folder: &[u8], buffer: &mut [u8]) -> Written
+pub fn listings(rt: &impl Files, folder: &[u8], buffer: &mut [u8]) -> Written
     ensures { SomeListings buffer.old buffer.new result }
 {
-    let w = watch(folder);
+    let w = watch(rt, folder);
     let mut log = [0u8; page::SPACE];
-    let l = files::read(folder, b"/log.bin", &mut log);
+    let l = files::read(rt, folder, b"/log.bin", &mut log);
     listings_text::write(w, &log[..l], buffer)
 }
 
 // What is known of a folder's pattern files.
-fn watch(folder: &[u8]) -> Watched
+fn watch(rt: &impl Files, folder: &[u8]) -> Watched
     ensures { Watching most result }
 {
     let mut w = listings_text::nothing();
     for k in 0..listings_text::FILES {
-        w = watch_file(w, folder, k);
+        w = watch_file(rt, w, folder, k);
     }
     w
 }
 
 // With one file more, the one whose number is k + 1; one that can't be opened changes nothing.
-fn watch_file(w: Watched, folder: &[u8], k: usize) -> Watched
+fn watch_file(rt: &impl Files, w: Watched, folder: &[u8], k: usize) -> Watched
     requires { k < most }
     ensures { Watching k w → Watching (k + 1) result }
 {
     let name = pattern_name(k);
-    let fd = files::open(folder, &name);
-    if fd < 0 {
+    let file = files::open(rt, folder, &name);
+    if file.is_none() {
         return w;
     }
     let mut pattern = [0u8; page::SPACE];
-    let n = files::read_opened(true, fd, &mut pattern);
+    let n = files::read_opened(file, &mut pattern);
     listings_text::add(w, k, &pattern[..n])
 }
 
