@@ -4,7 +4,7 @@
 #![tactic(auto)]
 
 use arguments::Pair;
-use files::ProcessNumber;
+use files::ProcessId;
 use std::rt::{Env, Files};
 use writer::Written;
 
@@ -56,7 +56,7 @@ fn no_match() {
 }
 
 // A file that is saved over an older one has the new bytes; where there is no folder for it nothing is saved.
-fn saved<R: Files + ProcessNumber>(rt: &R) {
+fn saved<R: Files + ProcessId>(rt: &R) {
     let mut space = [0u8; NAMES];
     let older = files::save(rt, b"saved", b"an older text").is_ok();
     let newer = files::save(rt, b"saved", b"a text").is_ok();
@@ -67,7 +67,7 @@ fn saved<R: Files + ProcessNumber>(rt: &R) {
 }
 
 // What is saved as the replay of an example is what its file `replayed` has.
-fn replayed<R: Files + ProcessNumber>(rt: &R, folder: &[u8]) {
+fn replayed<R: Files + ProcessId>(rt: &R, folder: &[u8]) {
     let mut pattern = [0u8; NAMES];
     let mut log = [0u8; NAMES];
     let sizes = files::read_both(rt, folder, &mut pattern, &mut log);

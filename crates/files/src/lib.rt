@@ -27,14 +27,14 @@ pub struct Sizes {
     pub log: usize,
 }
 
-// What knows the number of its process, which no other running program has.
-pub trait ProcessNumber {
-    fn process_number(&self) -> u64;
+// What knows the number of its process.
+pub trait ProcessId {
+    fn process_id(&self) -> u32;
 }
 
-impl ProcessNumber for HostRuntime {
-    fn process_number(&self) -> u64 {
-        u64::from(process::id(self.process()))
+impl ProcessId for HostRuntime {
+    fn process_id(&self) -> u32 {
+        process::id(self.process())
     }
 }
 
@@ -133,7 +133,7 @@ fn read_full(file: &mut impl Read, space: &mut [u8]) -> usize
 }
 
 // Writes replay.bin, the log that shows the match, where there is one. What is too long is not judged. Where it fails, replay.bin is what it was.
-pub fn save_replay<R: Files + ProcessNumber>(
+pub fn save_replay<R: Files + ProcessId>(
     rt: &R,
     pattern: &[u8],
     log: &[u8],
@@ -156,7 +156,7 @@ pub fn save_replay<R: Files + ProcessNumber>(
 }
 
 // Writes load.bin, where a load was made at the start of the space. Where none was made no file is touched; where it fails, load.bin is what it was.
-pub fn save_load<R: Files + ProcessNumber>(rt: &R, made: Made, space: &[u8]) -> std::io::Result<()>
+pub fn save_load<R: Files + ProcessId>(rt: &R, made: Made, space: &[u8]) -> std::io::Result<()>
     requires { LogWithin made space.now }
 {
     match made {
@@ -167,9 +167,9 @@ pub fn save_load<R: Files + ProcessNumber>(rt: &R, made: Made, space: &[u8]) -> 
 
 // Makes the file of this name anew, or replaces it whole. Where it fails, what had the name still has it, and the error says why.
 // The bytes go into a spare file beside it, which takes the name once it has all of them, and else is removed.
-pub fn save<R: Files + ProcessNumber>(rt: &R, name: &[u8], bytes: &[u8]) -> std::io::Result<()> {
+pub fn save<R: Files + ProcessId>(rt: &R, name: &[u8], bytes: &[u8]) -> std::io::Result<()> {
     let mut path = io::buffer();
-    let size = spare_name(name, rt.process_number(), &mut path);
+    let size = spare_name(name, process_number(rt.process_id()), &mut path);
     let spare = text(&path[..size])?;
     let name = text(name)?;
     let made = File::create_new(rt, spare);
@@ -221,6 +221,13 @@ fn spare_name(name: &[u8], process: u64, path: &mut [u8]) -> usize
     let dot = append(path, 0, name);
     let number = append(path, dot, b".");
     append(path, number, &figures[..n])
+}
+
+// The number of a process; none is below 0.
+fn process_number(pid: u32) -> u64
+    ensures { result ≡ pid }
+{
+    u64::from(pid)
 }
 
 // Puts bytes at a place of a path and answers the place after them. Where they don't fit it answers the path's length: the system refuses a

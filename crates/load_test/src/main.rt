@@ -4,7 +4,7 @@
 
 use arguments::Pair;
 use event_log::LogRead;
-use files::ProcessNumber;
+use files::ProcessId;
 use std::rt::Files;
 use writer::Written;
 
@@ -131,7 +131,7 @@ fn tried(seed: u32, count: usize, room: usize) {
 }
 
 // A load that was made is saved over an older one and read again; where none was made the file stays.
-fn saved<R: Files + ProcessNumber>(rt: &R) {
+fn saved<R: Files + ProcessId>(rt: &R) {
     let _ = files::save(rt, b"load.bin", b"an older text");
     save(rt, 0, 1000, b"/0_1000.bin");
     save(rt, 4294967295, 65536, b"/0_1000.bin");
@@ -141,7 +141,7 @@ fn saved<R: Files + ProcessNumber>(rt: &R) {
 }
 
 // Saves what these arguments ask for: whether that went well, and whether load.bin is then this stored log.
-fn save<R: Files + ProcessNumber>(rt: &R, first: u64, second: u64, name: &[u8]) {
+fn save<R: Files + ProcessId>(rt: &R, first: u64, second: u64, name: &[u8]) {
     console::numbered(b"saved ", first);
     console::numbered(b" ", second);
     let mut space = [BEFORE; SPACE];
@@ -152,7 +152,7 @@ fn save<R: Files + ProcessNumber>(rt: &R, first: u64, second: u64, name: &[u8]) 
     console::text(b"\n");
 }
 
-fn make_and_save<R: Files + ProcessNumber>(rt: &R, pair: Pair, space: &mut [u8]) -> bool {
+fn make_and_save<R: Files + ProcessId>(rt: &R, pair: Pair, space: &mut [u8]) -> bool {
     let made = load_text::make_load(pair, space);
     files::save_load(rt, made, space).is_ok()
 }

@@ -2,7 +2,7 @@
 // it is run.
 #![tactic(auto)]
 
-use files::ProcessNumber;
+use files::ProcessId;
 use std::io::{Eprint, Print};
 use std::rt::Files;
 
@@ -20,7 +20,7 @@ fn main(rt: HostRuntime) {
 }
 
 // What is printed says that the file is there, so a file that can't be written leaves nothing to print.
-fn replay<R: Files + ProcessNumber + Print + Eprint>(rt: &R, pattern: &[u8], log: &[u8]) {
+fn replay<R: Files + ProcessId + Print + Eprint>(rt: &R, pattern: &[u8], log: &[u8]) {
     match files::save_replay(rt, pattern, log) {
         Ok(()) => print(rt, pattern, log),
         Err(error) => files::fail(rt, b"replay.bin", error),
