@@ -33,8 +33,8 @@ module _ {K : Type 0} {alone : K → Alone K} where
         told = rw (n, w.told, w.sessions, add-one i) (tally_next alone past i row l);
       }
 
-  pub row_meets : {row now : List K} {tally : Tally} {i : ℕ} → Walked alone row now tally i → i ≡ length row → RowTaken alone row (tallied tally) now
-  row_meets {row} {now} {tally} {i} w q = rw (w.told, w.sessions, q) (all_taken alone row w.few)
+  pub walk_ends : {row now : List K} {tally : Tally} {i : ℕ} → Walked alone row now tally i → i ≡ length row → RowTaken alone row (tallied tally) now
+  walk_ends {row} {now} {tally} {i} w q = rw (w.told, w.sessions, q) (all_taken alone row w.few)
 
 -- the same of sessions held by value, with their answer
 pub row_answers : {alone : Session → Alone Session} {row now : List Session} {tally : Tally} {i : ℕ} → Walked alone row now tally i → i ≡ length row

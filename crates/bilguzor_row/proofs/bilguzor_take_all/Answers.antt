@@ -2,7 +2,7 @@
 use Rattle.std.proofs.Common.{◌≡◌, ◌<◌, length, arith, refl, ap}
 use Rattle.session_row.specs.Row.{most, too_many}
 use Rattle.session_row.proofs.Model.{none_taken}
-use Rattle.session_row.proofs.Walk.{walk_begins, tally_low, walk_goes_on, row_meets}
+use Rattle.session_row.proofs.Walk.{walk_begins, tally_low, walk_goes_on, walk_ends}
 use Rattle.bilguzor_row.specs.declared.TurnedParts.{TurnedParts}
 use Rattle.bilguzor_row.specs.Rows.{handed_numbers, alone_in, turned_in}
 use Rattle.bilguzor_row.proofs.bilguzor_take_all.Goals as goal
@@ -29,4 +29,4 @@ pub returns : goal.returns
 returns c =
     let w = c.loop-i.invariant.1 in
     let all : c.loop-i.i ≡ length c.args.row.now = omega (arith, w.turns) in
-    rw c.report_of.ensures (row_meets w all)
+    rw c.report_of.ensures (walk_ends w all)
