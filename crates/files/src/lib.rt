@@ -267,8 +267,12 @@ pub fn print<R: Print + Eprint>(rt: &R, program: &[u8], text: &[u8]) {
     }
 }
 
-// Writes a line to standard error: what failed, as the caller names it, a colon and why. Where that can't be written either nothing is said.
+// Writes a line to standard error: what failed, as the caller names it, a colon and why. Nothing is said where that can't be written either, nor where
+// the reader of what was printed has left.
 pub fn fail(rt: &impl Eprint, what: &[u8], error: Error) {
+    if error.kind() == ErrorKind::BrokenPipe {
+        return;
+    }
     let _ = match str::from_utf8(what) {
         Ok(what) => eprintln!(rt; "{what}: {error}"),
         Err(_) => eprintln!(rt; "{error}"),
