@@ -2,7 +2,7 @@
 #![tactic(auto)]
 
 mod compare;
-mod first;
+mod first_example;
 mod grouped;
 mod known;
 mod listed;
@@ -84,7 +84,7 @@ fn compared(
     let judged = run::run(pattern, log);
     let agreed = agree(pattern, log, t, read, judged);
     tally::add_if(counts, tally::DISAGREEMENTS, !agreed);
-    let first = first::agrees(judged, t, counts);
+    let first = first_example::agrees(judged, t, counts);
     let replayed = replays::agree(queue, seen, pattern, log, t, judged, counts);
     let listed = listed::agree(queue, seen, log, t, read, judged, counts);
     if !(agreed && first && replayed && listed) {
