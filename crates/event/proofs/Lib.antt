@@ -6,3 +6,4 @@ pub mod Updated
 pub mod Places
 pub mod Filled
 pub mod SlotNumbers
+pub mod Refusals

@@ -5,3 +5,4 @@ pub mod Range
 pub mod Effects
 pub mod Updated
 pub mod Places
+pub mod Refusals
