@@ -35,6 +35,16 @@ impl Refusal {
     {
         self as u8
     }
+
+    // A refusal for this reason, at an offset.
+    pub fn at(self, offset: usize) -> Refused
+        ensures { result ≡ record { reason = self; offset = offset } }
+    {
+        Refused {
+            reason: self,
+            offset,
+        }
+    }
 }
 
 // A refusal, and the offset of the first byte of the command concerned.
