@@ -8,43 +8,26 @@ ghost use Rattle.event.specs.Keys.{slot_number, slot_numbers, slot_key, slot_key
 use event::{Event, SLOTS, Slot};
 
 // Which slots of a pattern the event fits.
+#[tactic(auto, unfolding(event::specs::Slots::fitting))]
 pub fn fitting(slots: [Slot; SLOTS], e: Event) -> [bool; SLOTS]
     ensures { result ≡ fitting slots e }
 {
-    let mut r = [false; SLOTS];
-    for j in 0..SLOTS {
-        let s = slots[j];
-        let b = event::fit(s, e);
-        r[j] = b;
-    }
-    r
+    slots.map(|s| event::fit(s, e))
 }
 
 // Whether the event fits none of a pattern's slots, by which of its places it fits and how many of them are slots.
 pub fn none_fitted(fit: [bool; SLOTS], size: usize) -> bool
     ensures { (result ≡ true) ↔ NoneFitted size fit }
 {
-    for j in 0..SLOTS {
-        if j >= size {
-            return true;
-        }
-        if fit[j] {
-            return false;
-        }
-    }
-    true
+    !fit.iter().take(size).any(|fits| *fits)
 }
 
 // The thread of each slot of a pattern.
+#[tactic(auto, unfolding(event::specs::Slots::threads_of))]
 pub fn threads_of(slots: [Slot; SLOTS]) -> [u8; SLOTS]
     ensures { result ≡ threads_of slots }
 {
-    let mut r = [0u8; SLOTS];
-    for j in 0..SLOTS {
-        let s = slots[j];
-        r[j] = s.thread;
-    }
-    r
+    slots.map(|s| s.thread)
 }
 
 // Operation, thread and object of a slot in one number.
@@ -58,16 +41,11 @@ pub fn number_of(s: Slot) -> u32
 }
 
 // The number of each slot of a pattern.
+#[tactic(auto, unfolding(event::specs::Keys::slot_numbers))]
 pub fn numbers_of(slots: [Slot; SLOTS]) -> [u32; SLOTS]
     ensures { result ≡ slot_numbers slots }
 {
-    let mut r = [0u32; SLOTS];
-    for j in 0..SLOTS {
-        let s = slots[j];
-        let n = number_of(s);
-        r[j] = n;
-    }
-    r
+    slots.map(number_of)
 }
 
 // The thread of a slot and the low byte of its object: an event that fits the slot has the same.
@@ -80,14 +58,9 @@ pub fn key_of(s: Slot) -> u16
 }
 
 // The key of each slot of a pattern.
+#[tactic(auto, unfolding(event::specs::Keys::slot_keys))]
 pub fn keys_of(slots: [Slot; SLOTS]) -> [u16; SLOTS]
     ensures { result ≡ slot_keys slots }
 {
-    let mut r = [0u16; SLOTS];
-    for j in 0..SLOTS {
-        let s = slots[j];
-        let k = key_of(s);
-        r[j] = k;
-    }
-    r
+    slots.map(key_of)
 }
