@@ -6,25 +6,25 @@ use mathlib.Core.Bool.{true, false}
 use mathlib.Core.List.{List}
 use lib.ListN.{length}
 use borrow.Author.Tests.{leb-true}
+use Rattle.std.specs.Prelude.{Result, Ok}
 use Rattle.event.proofs.Tests.{by_test}
-use Rattle.writer.specs.declared.Written.{Written}
-use Rattle.writer.specs.declared.Written.TheVariants.{Next}
+use Rattle.event.specs.declared.refusal.Refused.{Refused}
 use Rattle.writer.specs.Writing.{written_is, written, refused, writing, has_room, buffer_after}
 use Rattle.writer.proofs.Buffers.{puts, length_put}
 use Rattle.page.specs.declared.Page.{Page}
 use Rattle.page.specs.Page.{empty_page, Adds, held, PutIn}
 use Rattle.page.proofs.Onto.{holding}
 
-module _ {Kind : List ℕ → Type 0} {before after : List ℕ} {r : Written} where
+module _ {Kind : List ℕ → Type 0} {before after : List ℕ} {r : Result ℕ Refused} where
   pub put_in : {p : Page} → Adds Kind empty_page p → (written_is r ≡ writing 0 (held p) before 0) × (after ≡ buffer_after 0 (held p) before 0) → PutIn Kind before after r
   put_in {p} a d =
       let g : held p ≡ a.text = holding a.text p a.short a.page in
       record { text = a.text; kind = a.kind; short = a.short; answer = rw g at d.0; buffer = rw g at d.1 }
 
-  pub within : {at : ℕ} → PutIn Kind before after r → r ≡ Next at → at ≤ length after
+  pub within : {at : ℕ} → PutIn Kind before after r → r ≡ Ok at → at ≤ length after
   within {at} l q = by_test (has_room l.text before 0) fits (λ y. absurd (short y))
     where
-      answered : written_is (Next at) ≡ written_is r
+      answered : written_is (Ok at) ≡ written_is r
       answered = ap written_is (sym q)
 
       fits : has_room l.text before 0 ≡ true → at ≤ length after

@@ -1,6 +1,6 @@
 -- A page of bytes under way, and a text of it at the start of a lent buffer.
-use Rattle.std.specs.Prelude.{ℕ, ◌+◌, ◌≤◌, ◌≡◌, cond, List, [], ◌∷◌, ltb, length, take, set, replicate}
-use Rattle.writer.specs.declared.Written.{Written}
+use Rattle.std.specs.Prelude.{ℕ, ◌+◌, ◌≤◌, ◌≡◌, cond, List, [], ◌∷◌, ltb, length, take, set, replicate, Result}
+use Rattle.event.specs.declared.refusal.Refused.{Refused}
 use Rattle.writer.specs.Writing.{writing, written_is, buffer_after}
 use Rattle.page.specs.declared.Page.{Page}
 
@@ -33,7 +33,7 @@ abbrev pub held : Page → List ℕ
 held p = take p.size p.bytes
 
 -- a text of this kind written at the start of a lent buffer, at place 0 and without a refusal of its own; or 15, and the buffer as it was, where it is shorter than the text
-pub record PutIn (Kind : List ℕ → Type 0) (before after : List ℕ) (r : Written) : Type 0 where
+pub record PutIn (Kind : List ℕ → Type 0) (before after : List ℕ) (r : Result ℕ Refused) : Type 0 where
   pub text : List ℕ
   pub kind : Kind text
   pub short : length text ≤ room

@@ -2,12 +2,13 @@
 #![tactic(auto)]
 
 ghost use Rattle.std.specs.Prelude.{◌≡◌};
+ghost use Rattle.event.specs.Refusals.{refusal_number};
 ghost use Rattle.writer.specs.Writing.{written_is, writing, buffer_after};
 ghost use Rattle.page.specs.Text.{figures as figures_of, decimal};
 ghost use Rattle.page.specs.Lines.{refusal_line, too_long_line};
 ghost use Rattle.page.specs.Page.{empty_page, with, onto, held};
 
-use writer::Written;
+use event::refusal::Refused;
 
 // The longest file that a program takes, in bytes.
 pub const LONGEST: usize = 65536;
@@ -39,21 +40,20 @@ impl Page {
     pub fn byte(mut self, b: u8) -> Page
         ensures { result ≡ with self b }
     {
-        let at = self.size;
-        if at >= ROOM {
-            return self;
+        if self.size < ROOM {
+            self.bytes[self.size] = b;
+            self.size += 1;
         }
-        self.bytes[at] = b;
-        self.size = at + 1;
         self
     }
 
+    #[tactic(auto, using(crate::proofs::Onto::onto_none, crate::proofs::Onto::next_byte))]
     pub fn text(self, s: &[u8]) -> Page
         ensures { result ≡ onto self s.now }
     {
         let mut p = self;
-        for i in 0..s.len() {
-            p = p.byte(s[i]);
+        for &b in s {
+            p = p.byte(b);
         }
         p
     }
@@ -68,16 +68,17 @@ impl Page {
     pub fn word(self, s: &[u8], n: usize) -> Page
         ensures { result ≡ onto (onto self s.now) (decimal n) }
     {
-        let p = self.text(s);
-        p.number(n)
+        self.text(s).number(n)
     }
 
-    pub fn refusal(self, number: u8, offset: usize) -> Page
-        ensures { result ≡ onto self (refusal_line number offset) }
+    #[tactic(auto, using(crate::proofs::Onto::onto_append))]
+    pub fn refusal(self, r: Refused) -> Page
+        ensures { result ≡ onto self (refusal_line (refusal_number r.reason) r.offset) }
     {
-        let p = self.word(b"refused ", number as usize);
-        let q = p.word(b" at ", offset);
-        q.text(b"\n")
+        let number = r.reason.number() as usize;
+        self.word(b"refused ", number)
+            .word(b" at ", r.offset)
+            .text(b"\n")
     }
 
     pub fn too_long(self) -> Page
@@ -87,16 +88,11 @@ impl Page {
     }
 
     // Puts the text at the start of a lent buffer. A size past the end of the page stands for the whole page.
-    pub fn put(self, buffer: &mut [u8]) -> Written
+    pub fn put(self, buffer: &mut [u8]) -> Result<usize, Refused>
         ensures answer { written_is result ≡ writing 0 (held self) buffer.old 0 }
         ensures after { buffer.new ≡ buffer_after 0 (held self) buffer.old 0 }
     {
-        let bytes = self.bytes;
-        let size = self.size;
-        if ROOM < size {
-            return writer::put(buffer, 0, &bytes, ROOM);
-        }
-        writer::put(buffer, 0, &bytes, size)
+        writer::put(buffer, 0, &self.bytes[..self.size.min(ROOM)])
     }
 }
 
