@@ -4,23 +4,12 @@ use native.Mathlib.Decide.{ℕ_discrete}
 use native.Mathlib.Omega.{arith}
 use native.Mathlib.Numerals.{add-one}
 use mathlib.Core.Path.{◌≡◌, refl, sym, ap, ◌∙◌}
-use mathlib.Core.Bool.{true, false, false≢true}
 use mathlib.Core.List.{List, ◌++◌}
-use mathlib.Core.Option.{some, none}
+use Rattle.std.specs.Prelude.{Some, None}
 use lib.ListN.{length, get_or, take, drop, take-append-drop}
 use lib.Seq.{take_all, take-suc}
-use Rattle.arguments.specs.declared.Argument.{Argument}
-use Rattle.arguments.specs.declared.Argument.TheVariants.{Number, NoNumber}
-use Rattle.arguments.specs.Numerals.{IsFigure, IsNumeral, Extends, TakesFigure, NumberGiven, numeral, no_numeral, argument_is, PairGiven, numerals, no_numerals, value_of}
+use Rattle.arguments.specs.Numerals.{IsFigure, IsNumeral, Extends, NumberGiven, numeral, no_numeral, PairGiven, numerals, no_numerals, value_of}
 use Rattle.arguments.proofs.Values.{behind, no_lower}
-
--- ---- one figure
-
-pub extends : {value byte : ℕ} → Extends value byte → TakesFigure value byte true
-extends h = record { extends = λ q. h; not_extends = λ q. absurd (false≢true (sym q)) }
-
-pub extends_not : {value byte : ℕ} → ¬ Extends value byte → TakesFigure value byte false
-extends_not h = record { extends = λ q. absurd (false≢true q); not_extends = λ q. h }
 
 -- ---- one argument
 
@@ -53,7 +42,7 @@ module _ (bytes : List ℕ) (i value : ℕ) (r : ReadTo bytes i value) (inside :
       figure k l (no d) = r.only_figures k (omega arith)
 
   -- a byte that is no figure, or a value that is not below 2^64, can't be mended by what follows
-  pub ends : ¬ Extends value (get_or bytes i 0) → NumberGiven bytes none
+  pub ends : ¬ Extends value (get_or bytes i 0) → NumberGiven bytes None
   ends out = no_numeral never
     where
       whole : value_of (take (suc i) bytes ++ drop (suc i) bytes) ≡ value_of bytes
@@ -68,7 +57,7 @@ module _ (bytes : List ℕ) (i value : ℕ) (r : ReadTo bytes i value) (inside :
           out (h.only_figures i inside, omega arith)
 
 -- every byte was read
-pub all_read : (bytes : List ℕ) (i value : ℕ) → ReadTo bytes i value → length bytes ≤ i → 1 ≤ length bytes → length bytes ≤ 20 → NumberGiven bytes (some value)
+pub all_read : (bytes : List ℕ) (i value : ℕ) → ReadTo bytes i value → length bytes ≤ i → 1 ≤ length bytes → length bytes ≤ 20 → NumberGiven bytes (Some value)
 all_read bytes i value r over least most =
     numeral
     (record {
@@ -79,21 +68,27 @@ all_read bytes i value r over least most =
       below = r.below;
     })
 
+-- an argument of no byte, or of too many
+pub wrong_length : (bytes : List ℕ) → ((1 ≤ length bytes) × (length bytes ≤ 20) → ⊥) → NumberGiven bytes None
+wrong_length bytes out = no_numeral (λ n h. out (h.least, h.most))
+
 -- ---- two arguments
 
-is_numeral : {bytes : List ℕ} {n : ℕ} → NumberGiven bytes (some n) → IsNumeral bytes n
+is_numeral : {bytes : List ℕ} {n : ℕ} → NumberGiven bytes (Some n) → IsNumeral bytes n
 is_numeral (numeral h) = h
 
-is_none : {bytes : List ℕ} → NumberGiven bytes none → (n : ℕ) → ¬ IsNumeral bytes n
+is_none : {bytes : List ℕ} → NumberGiven bytes None → (n : ℕ) → ¬ IsNumeral bytes n
 is_none (no_numeral h) = h
 
-module _ {given : ℕ} {first second : List ℕ} {a : Argument} where
-  pub both : {b : Argument} {x y : ℕ} → given ≡ 2 → a ≡ Number x → NumberGiven first (argument_is a) → b ≡ Number y → NumberGiven second (argument_is b)
-      → PairGiven given first second (some (x, y))
-  both two p m q n = numerals (record { two = two; first_is = is_numeral (rw p at m); second_is = is_numeral (rw q at n) })
+module _ {given : ℕ} {first second : List ℕ} where
+  pub both : {x y : ℕ} → given ≡ 2 → NumberGiven first (Some x) → NumberGiven second (Some y) → PairGiven given first second (Some (x, y))
+  both two m n = numerals (record { two = two; first_is = is_numeral m; second_is = is_numeral n })
 
-  pub first_none : a ≡ NoNumber → NumberGiven first (argument_is a) → PairGiven given first second none
-  first_none p m = no_numerals (λ x y h. is_none (rw p at m) x h.first_is)
+  pub other_count : (given ≡ 2 → ⊥) → PairGiven given first second None
+  other_count other = no_numerals (λ x y h. other h.two)
 
-  pub second_none : a ≡ NoNumber → NumberGiven second (argument_is a) → PairGiven given first second none
-  second_none p m = no_numerals (λ x y h. is_none (rw p at m) y h.second_is)
+  pub first_none : NumberGiven first None → PairGiven given first second None
+  first_none m = no_numerals (λ x y h. is_none m x h.first_is)
+
+  pub second_none : NumberGiven second None → PairGiven given first second None
+  second_none n = no_numerals (λ x y h. is_none n y h.second_is)

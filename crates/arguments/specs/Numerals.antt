@@ -1,10 +1,5 @@
 -- Which arguments are numbers, and what is answered for them.
-use Rattle.std.specs.Prelude.{ℕ, ◌+◌, ◌-◌, ◌*◌, ◌^◌, ◌<◌, ◌≤◌, ◌≡◌, Bool, true, false, List, [], ◌∷◌, length, get_or}
-use Rattle.std.proofs.Math.Option.{Option, some, none}
-use Rattle.arguments.specs.declared.Argument.{Argument}
-use Rattle.arguments.specs.declared.Argument.TheVariants as argument
-use Rattle.arguments.specs.declared.Pair.{Pair}
-use Rattle.arguments.specs.declared.Pair.TheVariants as arguments
+use Rattle.std.specs.Prelude.{ℕ, ◌+◌, ◌-◌, ◌*◌, ◌^◌, ◌<◌, ◌≤◌, ◌≡◌, List, [], ◌∷◌, length, get_or, Option, Some, None}
 
 -- "figures only (bytes 30 to 39)": in hexadecimal, so 48 to 57
 abbrev pub IsFigure : ℕ → Type 0
@@ -25,12 +20,8 @@ pub record IsNumeral (bytes : List ℕ) (n : ℕ) : Type 0 where
 
 -- what is answered for an argument: the number that it is, or that it is none
 pub data NumberGiven (bytes : List ℕ) : Option ℕ → Type 0 where
-  numeral : {n : ℕ} → IsNumeral bytes n → NumberGiven bytes (some n)
-  no_numeral : ((n : ℕ) → ¬ IsNumeral bytes n) → NumberGiven bytes none
-
-abbrev pub argument_is : Argument → Option ℕ
-argument_is (argument.Number n) = some n
-argument_is argument.NoNumber = none
+  numeral : {n : ℕ} → IsNumeral bytes n → NumberGiven bytes (Some n)
+  no_numeral : ((n : ℕ) → ¬ IsNumeral bytes n) → NumberGiven bytes None
 
 -- the arguments of a program that takes two numbers, neither "too few, too many" nor "no numbers": how many there are, the first two, and their numbers
 pub record AreNumerals (given : ℕ) (first second : List ℕ) (m n : ℕ) : Type 0 where
@@ -40,17 +31,9 @@ pub record AreNumerals (given : ℕ) (first second : List ℕ) (m n : ℕ) : Typ
 
 -- what is answered for them: the two numbers, or that they are not that
 pub data PairGiven (given : ℕ) (first second : List ℕ) : Option (ℕ × ℕ) → Type 0 where
-  numerals : {m n : ℕ} → AreNumerals given first second m n → PairGiven given first second (some (m, n))
-  no_numerals : ((m n : ℕ) → ¬ AreNumerals given first second m n) → PairGiven given first second none
-
-abbrev pub pair_is : Pair → Option (ℕ × ℕ)
-pair_is (arguments.Numbers m n) = some (m, n)
-pair_is arguments.NoNumbers = none
+  numerals : {m n : ℕ} → AreNumerals given first second m n → PairGiven given first second (Some (m, n))
+  no_numerals : ((m n : ℕ) → ¬ AreNumerals given first second m n) → PairGiven given first second None
 
 -- a byte may stand behind figures of this value: it is a figure, and with it the value stays "below 2^64"
 abbrev pub Extends : ℕ → ℕ → Type 0
 Extends value byte = IsFigure byte × (10 * value + (byte - 48) < 2 ^ 64)
-
-pub record TakesFigure (value byte : ℕ) (r : Bool) : Type 0 where
-  pub extends : r ≡ true → Extends value byte
-  pub not_extends : r ≡ false → ¬ Extends value byte

@@ -1,106 +1,59 @@
 // The numbers that a program is given as arguments.
 #![tactic(auto)]
 
-ghost use Rattle.std.specs.Prelude.{◌+◌, ◌-◌, ◌*◌, ◌≡◌};
+ghost use Rattle.std.specs.Prelude.{◌+◌, ◌-◌, ◌*◌, SomeIff};
 ghost use Rattle.io.specs.Counts.{IsPrefixLen};
-ghost use Rattle.arguments.specs.Numerals.{Extends, TakesFigure, NumberGiven, argument_is, PairGiven, pair_is};
+ghost use Rattle.arguments.specs.Numerals.{Extends, NumberGiven, PairGiven};
 
 use std::env::FillError;
 use std::rt::Env;
 
 // The most figures of an argument that is a number.
 const FIGURES: usize = 20;
-// The highest number below 2^64.
-const HIGHEST: u64 = 18446744073709551615;
-
-// What an argument is: a number, or none.
-#[derive(Clone, Copy)]
-pub enum Argument {
-    Number { value: u64 },
-    NoNumber,
-}
-
-// What a program's arguments are: two numbers, or not that.
-#[derive(Clone, Copy)]
-pub enum Pair {
-    Numbers { first: u64, second: u64 },
-    NoNumbers,
-}
 
 // The number that an argument is, or that it is none.
-pub fn number(bytes: &[u8]) -> Argument
-    ensures { NumberGiven bytes.now (argument_is result) }
+#[tactic(auto, using(crate::proofs::Reading::wrong_length, crate::proofs::Reading::one_more, crate::proofs::Reading::ends, crate::proofs::Reading::all_read))]
+pub fn number(bytes: &[u8]) -> Option<u64>
+    ensures { NumberGiven bytes.now result }
 {
-    if bytes.len() == 0 {
-        return Argument::NoNumber;
+    if !(1..=FIGURES).contains(&bytes.len()) {
+        return None;
     }
-    if FIGURES < bytes.len() {
-        return Argument::NoNumber;
+    let mut value = 0;
+    for &byte in bytes {
+        value = with_figure(value, byte)?;
     }
-    let mut value: u64 = 0;
-    for i in 0..bytes.len() {
-        let byte = bytes[i];
-        if !takes_figure(value, byte) {
-            return Argument::NoNumber;
-        }
-        value = with_figure(value, byte);
-    }
-    Argument::Number { value }
+    Some(value)
 }
 
-// Whether a byte is a figure with which a value stays below 2^64.
-fn takes_figure(value: u64, byte: u8) -> bool
-    ensures { TakesFigure value byte result }
+// The value with a figure behind it: none where the byte is no figure, or the value not below 2^64.
+fn with_figure(value: u64, byte: u8) -> Option<u64>
+    ensures { SomeIff result (Extends value byte) (10 * value + (byte - 48)) }
 {
-    if byte < b'0' {
-        return false;
+    if !byte.is_ascii_digit() {
+        return None;
     }
-    if b'9' < byte {
-        return false;
-    }
-    if HIGHEST / 10 < value {
-        return false;
-    }
-    let figure = (byte - b'0') as u64;
-    if HIGHEST - 10 * value < figure {
-        return false;
-    }
-    true
-}
-
-// The value with a figure behind it.
-fn with_figure(value: u64, byte: u8) -> u64
-    requires { Extends value byte }
-    ensures { result ≡ 10 * value + (byte - 48) }
-{
-    10 * value + (byte - b'0') as u64
+    let figure = u64::from(byte - b'0');
+    value.checked_mul(10)?.checked_add(figure)
 }
 
 // The numbers of a program that takes two: `given` is how many arguments it has, beside its own name.
-pub fn pair_of(given: usize, first: &[u8], second: &[u8]) -> Pair
-    ensures { PairGiven given first.now second.now (pair_is result) }
+#[tactic(auto, using(crate::proofs::Reading::other_count, crate::proofs::Reading::first_none, crate::proofs::Reading::second_none, crate::proofs::Reading::both))]
+pub fn pair_of(given: usize, first: &[u8], second: &[u8]) -> Option<(u64, u64)>
+    ensures { PairGiven given first.now second.now result }
 {
     if given != 2 {
-        return Pair::NoNumbers;
+        return None;
     }
-    let m = number(first);
-    let n = number(second);
-    match m {
-        Argument::Number { value: a } => match n {
-            Argument::Number { value: b } => Pair::Numbers {
-                first: a,
-                second: b,
-            },
-            Argument::NoNumber => Pair::NoNumbers,
-        },
-        Argument::NoNumber => Pair::NoNumbers,
-    }
+    let m = number(first)?;
+    let n = number(second)?;
+    Some((m, n))
 }
 
 // The two numbers that this program was started with. What the system gives is assumed and not proved, and no contract can say it.
 // An argument longer than its space comes back with length 0, which is no number, as it must be.
-pub fn given_pair(rt: &impl Env) -> Pair {
-    let given = beside_name(arg_count(rt));
+pub fn given_pair(rt: &impl Env) -> Option<(u64, u64)> {
+    let given = arg_count(rt).saturating_sub(1);
     let mut first = [0u8; FIGURES];
     let mut second = [0u8; FIGURES];
     let m = arg(rt, 1, &mut first);
@@ -123,14 +76,4 @@ pub fn arg(rt: &impl Env, n: usize, space: &mut [u8]) -> usize
     ensures { IsPrefixLen result space.new }
 {
     rt.arg(n, space).unwrap_or(0)
-}
-
-// How many arguments there are beside the program's own name, which is counted among them.
-fn beside_name(count: usize) -> usize
-    ensures { result ≡ count - 1 }
-{
-    if count == 0 {
-        return 0;
-    }
-    count - 1
 }

@@ -1,5 +1,5 @@
 use Rattle.arguments.proofs.Reading.{ReadTo}
 use Rattle.arguments.proofs.number.Given as goal
 
-abbrev pub invariant-loop-i : goal.invariant-loop-i
-invariant-loop-i l = ReadTo l.bytes l.i l.value
+abbrev pub invariant-loop-byte : goal.invariant-loop-byte
+invariant-loop-byte l = ReadTo l.bytes l.byte-index l.value
