@@ -69,8 +69,7 @@ fn arrive(clocks: &mut [u16; CLOCKS], e: Event) -> Stamp
     ensures stamp { result ≡ stamp_by clocks.old e }
     ensures after { clocks.new ≡ clocks_after clocks.old e }
 {
-    let k = event::range(event::slot_of(e));
-    if k != 0 {
+    if event::range(event::slot_of(e)).is_err() {
         return Stamp { at: [0; THREADS] };
     }
     let t = e.thread;
