@@ -4,6 +4,8 @@
 
 ghost use Rattle.std.specs.Prelude.{◌≡◌, true, ℕ, ◌≤◌, ◌<◌, length, get_or, take};
 
+use event::refusal::Refused;
+
 pub fn text(s: &[u8]) {
     io::write_all(1, s);
 }
@@ -25,31 +27,25 @@ pub fn count(name: &[u8], n: u64) {
     text(b"\n");
 }
 
-pub fn refusal(k: u8, offset: usize) {
-    numbered(b"refused ", k as u64);
-    numbered(b" at ", offset as u64);
+pub fn refusal(r: Refused) {
+    numbered(b"refused ", u64::from(r.reason.number()));
+    numbered(b" at ", r.offset as u64);
 }
 
-pub fn pattern_refusal(k: u8, offset: usize) {
+pub fn pattern_refusal(r: Refused) {
     text(b"pattern ");
-    refusal(k, offset);
+    refusal(r);
 }
 
 // The hexadecimal digit of the low four bits.
 fn digit(n: u8) -> u8 {
-    let low = n % 16;
-    if low < 10 { 48 + low } else { 55 + low }
-}
-
-fn byte(b: u8) {
-    let pair = [b' ', digit(b / 16), digit(b)];
-    text(&pair);
+    b"0123456789ABCDEF"[(n % 16) as usize]
 }
 
 // Each byte in hexadecimal, a space before it.
 pub fn bytes(s: &[u8]) {
-    for i in 0..s.len() {
-        byte(s[i]);
+    for &b in s {
+        text(&[b' ', digit(b / 16), digit(b)]);
     }
 }
 
@@ -59,20 +55,12 @@ pub fn find(s: &[u8], from: usize, b: u8) -> usize
     ensures before { (k : ℕ) → from ≤ k → k < result → get_or s.now k 0 ≡ b → ⊥ }
     ensures found { result < length s.now → get_or s.now result 0 ≡ b }
 {
-    for i in from..s.len() {
-        if s[i] == b {
-            return i;
-        }
-    }
-    s.len()
+    (from..s.len()).find(|&i| s[i] == b).unwrap_or(s.len())
 }
 
 // Whether s has n bytes, and the first n are the text.
 pub fn starts_with(s: &[u8], n: usize, text: &[u8]) -> bool
     ensures { (result ≡ true → take n s.now ≡ text.now) × (n ≤ length s.now → take n s.now ≡ text.now → result ≡ true) }
 {
-    if s.len() < n {
-        return false;
-    }
-    check::same(&s[..n], text)
+    n <= s.len() && &s[..n] == text
 }
