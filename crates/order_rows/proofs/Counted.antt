@@ -1,20 +1,16 @@
--- The numbers from k up to n, one by one: those that pass a test, and whether one does.
+-- The numbers from k up to n, one by one: those that pass a test.
 use Prim.Native.Nat.{ℕ, suc, ◌+◌, ◌-◌, ◌≤◌, ◌<◌}
 use mathlib.Core.Path.{◌≡◌}
 use mathlib.Core.Bool.{Bool, true, false}
 use mathlib.Core.List.{List, [], ◌∷◌}
 use native.Mathlib.Numerals.{add-one}
 use native.Mathlib.Omega.{arith}
-use Rattle.trace.proofs.Lists.{filter, any}
+use Rattle.trace.proofs.Lists.{filter}
 use Rattle.trace.proofs.Runs.{run}
 
 -- those of them that pass the test
 unfoldable pub passing : (ℕ → Bool) → ℕ → ℕ → List ℕ
 passing p k n = filter p (run k (suc n - k))
-
--- one of them does
-unfoldable pub any_up : (ℕ → Bool) → ℕ → ℕ → Bool
-any_up p k n = any p (run k (suc n - k))
 
 module _ (p : ℕ → Bool) (k n : ℕ) where
   step : k ≤ n → suc n - k ≡ suc (suc n - (k + 1))
@@ -28,20 +24,8 @@ module _ (p : ℕ → Bool) (k n : ℕ) where
   unfolding passing
   one_fails l h = rw (step l, add-one, h)
 
-  pub up_found : k ≤ n → p k ≡ true → any_up p k n ≡ true
-  unfolding any_up
-  up_found l h = rw (step l, h)
-
-  pub up_passed : k ≤ n → p k ≡ false → any_up p k n ≡ any_up p (k + 1) n
-  unfolding any_up
-  up_passed l h = rw (step l, add-one, h)
-
   over : n < k → suc n - k ≡ 0
   over l = omega arith
-
-  pub up_ended : n < k → any_up p k n ≡ false
-  unfolding any_up
-  up_ended l = rw (over l)
 
   pub none_left : n < k → passing p k n ≡ []
   unfolding passing
@@ -53,7 +37,3 @@ all n = omega arith
 pub from_one : (p : ℕ → Bool) (n : ℕ) → filter p (run 1 n) ≡ passing p 1 n
 unfolding passing
 from_one p n = rw (all n)
-
-pub up_one : (p : ℕ → Bool) (n : ℕ) → any p (run 1 n) ≡ any_up p 1 n
-unfolding any_up
-up_one p n = rw (all n)

@@ -1,91 +1,87 @@
--- A row of places that is filled with numbers, and with those up to n that pass a test: k of them have been looked at, less one.
-use Prim.Native.Nat.{ℕ, suc, ◌+◌, ◌≤◌, ◌<◌}
-use mathlib.Core.Path.{◌≡◌, refl, sym, ap, ap₂, ◌∙◌}
+-- A row of places that is filled from its start: with the numbers 1 to n, or with those of them that pass a test.
+use Prim.Native.Nat.{ℕ, zero, suc, ◌+◌, ◌≤◌, ◌<◌}
+use mathlib.Core.Path.{◌≡◌, sym, ap, ◌∙◌}
 use mathlib.Core.Bool.{Bool, true, false}
 use mathlib.Core.List.{List, [], ◌∷◌, ◌++◌, append-nil}
+use native.Mathlib.Numerals.{add-one}
 use native.Mathlib.Omega.{arith}
-use lib.ListN.{length, take, length-append}
-use lib.Seq.{append_snoc, length-take-le}
+use lib.ListN.{length, set, drop, replicate, length-append}
+use lib.Seq.{append_snoc}
+use Rattle.std.proofs.lemmas.List.{drop-replicate}
 use Rattle.event.proofs.Places.{next_place}
 use Rattle.trace.proofs.Lists.{filter}
 use Rattle.trace.proofs.Runs.{run}
-use Rattle.order_rows.specs.declared.Filling.{Filling}
-use Rattle.order_rows.specs.Rows.{order_places, order_row, empty_filling, put_if, put_all}
+use Rattle.enumeration.proofs.OrderLists.{run_length}
+use Rattle.order_rows.specs.Rows.{order_places, order_row}
 use Rattle.order_rows.proofs.Counted.{passing, from_one, one_passes, one_fails, none_left}
 
--- ---- what is put
+-- ---- the numbers 1 to n
 
--- a row onto which these were put
-abbrev pub filling : List ℕ → Filling
-filling xs = record { row = order_row xs; at = length xs }
+run_snoc : (a n : ℕ) → run a n ++ ((a + n) ∷ []) ≡ run a (suc n)
+run_snoc a zero = let e : a + 0 ≡ a = omega arith in rw e
+run_snoc a (suc n) =
+    let e : a + suc n ≡ suc a + n = omega arith in
+    ap (λ xs. a ∷ xs) (ap (λ k. run (suc a) n ++ (k ∷ [])) e ∙ run_snoc (suc a) n)
 
-put_one : (xs : List ℕ) (k : ℕ) → length xs < order_places → put_if true k (filling xs) ≡ filling (xs ++ (k ∷ []))
-put_one xs k l =
-    ap₂ (λ r a. record { row = r; at = a }) (next_place 0 order_places xs k l)
-    (let e : length (xs ++ (k ∷ [])) ≡ length xs + 1 = length-append xs (k ∷ []) in sym e)
+pub one_more : (i : ℕ) → i < order_places → set (order_row (run 1 i)) i (i + 1) ≡ order_row (run 1 (i + 1))
+one_more i l =
+    let n : length (run 1 i) ≡ i = run_length 1 i in
+    let s : set (order_row (run 1 i)) (length (run 1 i)) (i + 1) ≡ order_row (run 1 i ++ ((i + 1) ∷ [])) = next_place 0 order_places (run 1 i) (i + 1) (omega arith) in
+    let e : 1 + i ≡ i + 1 = omega arith in
+    ap (λ k. set (order_row (run 1 i)) k (i + 1)) (sym n) ∙ s ∙ ap (λ k. order_row (run 1 i ++ (k ∷ []))) (sym e) ∙ ap order_row (run_snoc 1 i)
+    ∙ ap (λ k. order_row (run 1 k)) (sym (add-one i))
 
-put_more : (xs ks : List ℕ) → length xs + length ks ≤ order_places → put_all ks (filling xs) ≡ filling (xs ++ ks)
-put_more xs [] l = ap filling (sym (append-nil xs))
-put_more xs (k ∷ ks) l =
-    ap (put_all ks) (put_one xs k (omega arith)) ∙ put_more (xs ++ (k ∷ [])) ks (rw length-append (omega arith)) ∙ ap filling (append_snoc xs k ks)
+-- ---- those of them that pass a test, behind others
 
--- the numbers that were put onto an empty row, and 0 beyond
-pub put_row : (ks : List ℕ) → length ks ≤ order_places → put_all ks empty_filling ≡ filling ks
-put_row ks l = put_more [] ks (omega arith)
+-- those below k were put at their places
+pub record Filled (p : ℕ → Bool) (n : ℕ) (whole row : List ℕ) (at k : ℕ) : Type 0 where
+  pub put : List ℕ
+  pub filled : row ≡ order_row put
+  pub place : at ≡ length put
+  pub high : at ≤ order_places
+  pub rest : put ++ passing p k n ≡ whole
 
-pub put_append : (xs ks : List ℕ) (f : Filling) → put_all (xs ++ ks) f ≡ put_all ks (put_all xs f)
-put_append [] ks f = refl
-put_append (x ∷ xs) ks f = put_append xs ks (put_if true x f)
+-- the numbers before a place, and one at it
+begun : (xs : List ℕ) (p z : ℕ) → length xs ≡ p → p < order_places → set (xs ++ drop p (replicate order_places 0)) p z ≡ order_row (xs ++ (z ∷ []))
+begun xs p z e l =
+    rw (sym e, drop-replicate {X = ℕ} (length xs) order_places 0) (next_place 0 order_places xs z (omega arith))
 
--- ---- the numbers before a place
+pub filled_start : (p : ℕ → Bool) (n : ℕ) (xs : List ℕ) (at z : ℕ) → length xs ≡ at → at < order_places
+    → Filled p n (xs ++ (z ∷ filter p (run 1 n))) (set (xs ++ drop at (replicate order_places 0)) at z) (at + 1) 1
+filled_start p n xs at z e l = record {
+  put = xs ++ (z ∷ []);
+  filled = begun xs at z e l;
+  place = ap (λ m. m + 1) (sym e) ∙ sym (length-append xs (z ∷ []));
+  high = omega arith;
+  rest = append_snoc xs z (passing p 1 n) ∙ ap (λ ks. xs ++ (z ∷ ks)) (sym (from_one p n));
+}
 
--- the first i of them were put
-pub record Copied (o : List ℕ) (to : ℕ) (f : Filling) (i : ℕ) : Type 0 where
-  pub high : i ≤ to
-  pub place : f.at ≡ i
-  pub sofar : f ≡ put_all (take i o) empty_filling
+module _ (p : ℕ → Bool) (n : ℕ) (whole row : List ℕ) (at k : ℕ) (f : Filled p n whole row at k) (fits : length whole ≤ order_places) where
+  sized : length f.put + length (passing p k n) ≡ length whole
+  sized = sym (length-append f.put (passing p k n)) ∙ ap length f.rest
 
--- ---- a number behind them, and others behind that
+  pub filled_room : k ≤ n → p k ≡ true → at < order_places
+  filled_room l t =
+      let h = rw (one_passes p k n l t) at sized in
+      let e = f.place in
+      omega arith
 
-module _ (o : List ℕ) (from z : ℕ) (within : from ≤ length o) (few : from ≤ order_places) {b : Filling} (copy : b ≡ put_all (take from o) empty_filling) where
-  pub copied_at : b.at ≡ from
-  copied_at = ap (λ (f : Filling). f.at) (copy ∙ put_row (take from o) (rw (length-take-le from o within) few)) ∙ length-take-le from o within
+  pub filled_put : k ≤ n → p k ≡ true → Filled p n whole (set row at k) (at + 1) (k + 1)
+  filled_put l t =
+      let h = rw (one_passes p k n l t) at sized in
+      let s : length (f.put ++ (k ∷ [])) ≡ length f.put + 1 = length-append f.put (k ∷ []) in
+      record {
+        put = f.put ++ (k ∷ []);
+        filled = rw (f.filled, f.place) (next_place 0 order_places f.put k (omega arith));
+        place = ap (λ m. m + 1) f.place ∙ sym s;
+        high = (let r = filled_room l t in omega arith);
+        rest = append_snoc f.put k (passing p (k + 1) n) ∙ ap (λ ks. f.put ++ ks) (sym (one_passes p k n l t)) ∙ f.rest;
+      }
 
-  module _ {s : Filling} (one : s ≡ put_if true z b) where
-    pub raised_at : s.at ≡ from + 1
-    raised_at = ap (λ (f : Filling). f.at) one ∙ ap (λ n. n + 1) copied_at
+  pub filled_over : k ≤ n → p k ≡ false → Filled p n whole row at (k + 1)
+  filled_over l t =
+      record { put = f.put; filled = f.filled; place = f.place; high = f.high; rest = ap (λ ks. f.put ++ ks) (sym (one_fails p k n l t)) ∙ f.rest }
 
-    pub raised_filling : (ks : List ℕ) → from + 1 + length ks ≤ order_places → {d : Filling} → d ≡ put_all ks s → d ≡ filling (take from o ++ (z ∷ ks))
-    raised_filling ks room e =
-        e ∙ ap (put_all ks) (one ∙ ap (put_if true z) copy) ∙ sym (put_append (take from o) (z ∷ ks) empty_filling)
-        ∙ put_row (take from o ++ (z ∷ ks)) (rw (length-append, length-take-le from o within) (omega arith))
-
--- ---- those up to n that pass a test
-
-pub record Filled (p : ℕ → Bool) (n : ℕ) (start f : Filling) (k : ℕ) : Type 0 where
-  pub low : 1 ≤ k
-  pub high : k ≤ suc n
-  pub room : f.at + length (passing p k n) ≤ order_places
-  pub rest : put_all (passing p 1 n) start ≡ put_all (passing p k n) f
-
-module _ (p : ℕ → Bool) (n : ℕ) (start : Filling) where
-  pub filled_start : start.at + length (filter p (run 1 n)) ≤ order_places → Filled p n start start 1
-  filled_start h = record { low = omega arith; high = omega arith; room = rw from_one at h; rest = refl }
-
-  module _ (f : Filling) (k : ℕ) (filled : Filled p n start f k) where
-    pub filled_room : k ≤ n → {w : Bool} → w ≡ p k → w ≡ true → f.at < order_places
-    filled_room l e t =
-        let h = rw (one_passes p k n l (sym e ∙ t)) at filled.room in
-        omega arith
-
-    pub filled_step : k ≤ n → (w : Bool) → w ≡ p k → {g : Filling} → g ≡ put_if w k f → Filled p n start g (k + 1)
-    filled_step l true e q =
-        let s = one_passes p k n l (sym e) in
-        let h = rw s at filled.room in
-        rw q (record { low = omega arith; high = omega arith; room = omega arith; rest = filled.rest ∙ ap (λ ks. put_all ks f) s })
-    filled_step l false e q =
-        let s = one_fails p k n l (sym e) in
-        rw q (record { low = omega arith; high = omega arith; room = rw s at filled.room; rest = filled.rest ∙ ap (λ ks. put_all ks f) s })
-
-    pub filled_end : n < k → f ≡ put_all (filter p (run 1 n)) start
-    filled_end l = rw (from_one p n) (sym (filled.rest ∙ ap (λ ks. put_all ks f) (none_left p k n l)))
+  pub filled_end : n < k → row ≡ order_row whole
+  filled_end l =
+      f.filled ∙ ap order_row (sym (append-nil f.put) ∙ ap (λ ks. f.put ++ ks) (sym (none_left p k n l)) ∙ f.rest)

@@ -1,8 +1,17 @@
-use Rattle.order_rows.proofs.Tested.{not_among, is_among}
+use mathlib.Core.Path.{◌≡◌}
+use mathlib.Core.Bool.{true, false}
+use lib.Dec.{ltb}
+use borrow.Author.Tests.{lt-ltb}
+use Rattle.std.proofs.lemmas.Bool.{le-ltb}
+use Rattle.order_rows.proofs.Searches.{among_is}
 use Rattle.order_rows.proofs.among.Goals as goal
 
-pub returns-then-k-eq0 : goal.returns-then-k-eq0
-returns-then-k-eq0 c = rw c.if-k-eq0.true (not_among c.args.n)
+pub returns-then-k-gt0 : goal.returns-then-k-gt0
+returns-then-k-gt0 c = let a = c.args in
+    let h : ltb 0 a.k ≡ true = lt-ltb 0 a.k c.if-k-gt0.true in
+    rw h at (among_is a.n a.k)
 
-pub returns : goal.returns
-returns c = is_among c.args.k c.args.n c.if-k-eq0.false
+pub returns-else-k-gt0 : goal.returns-else-k-gt0
+returns-else-k-gt0 c = let a = c.args in
+    let h : ltb 0 a.k ≡ false = le-ltb 0 a.k c.if-k-gt0.false in
+    rw h (rw h at (among_is a.n a.k))

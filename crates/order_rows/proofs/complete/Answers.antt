@@ -1,26 +1,19 @@
+use Prim.Native.Nat.{◌+◌}
 use native.Mathlib.Omega.{arith}
-use mathlib.Core.Path.{ap, sym, ◌∙◌}
-use mathlib.Core.Bool.{not}
+use mathlib.Core.Path.{ap, ◌∙◌}
 use lib.ListN.{length}
-use Rattle.order_rows.proofs.Counted.{up_one, up_found, up_passed, up_ended}
-use Rattle.order_rows.proofs.complete.Invariants.{absent}
+use borrow.Author.Tests.{tests}
+use Rattle.std.proofs.Common.{rules}
+use Rattle.std.specs.List.{list_all}
+use Rattle.std.proofs.lemmas.Iterator.{YieldsList-from_range}
+use Rattle.std.proofs.lemmas.Iterator.Search.{all_from_yields_List}
+use Rattle.trace.proofs.Runs.{run}
+use Rattle.enumeration.specs.Computed.{contains}
+use Rattle.order_rows.proofs.Searches.{all_is, contains_is, numbers}
 use Rattle.order_rows.proofs.complete.Goals as goal
 
 pub returns : goal.returns
-returns c = let o = c.args.order.now in
-    let l = c.loop-k in
-    sym (ap not (up_one (absent o) (length o) ∙ l.invariant.2 ∙ up_ended (absent o) l.k (length o) (omega (arith, c.loop-k-test.false))))
-
-pub returns-then-not-contains : goal.returns-then-not-contains
-returns-then-not-contains c =
+returns c =
     let o = c.args.order.now in
-    let l = c.loop-k in
-    let h = up_found (absent o) l.k (length o) c.loop-k-test.true (ap not (sym c.contains.ensures ∙ c.if-not-contains.true)) in
-    sym (ap not (up_one (absent o) (length o) ∙ l.invariant.2 ∙ h))
-
-pub loop-k-preserved : goal.loop-k-preserved
-loop-k-preserved c =
-    let o = c.args.order.now in
-    let l = c.loop-k in
-    let h = up_passed (absent o) l.k (length o) c.loop-k-test.true (ap not (sym c.contains.ensures ∙ c.if-not-contains.false)) in
-    (omega arith, omega arith, l.invariant.2 ∙ h)
+    all_from_yields_List (contains o) _ _ _ c.all.ensures.ran (YieldsList-from_range 1 (length o + 1) (length o) (cc) (omega arith))
+    (λ x b q k. search (rules, tests, contains_is)) ∙ ap (list_all (contains o)) (numbers 1 (length o)) ∙ all_is (contains o) (run 1 (length o))

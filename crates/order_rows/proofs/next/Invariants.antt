@@ -1,4 +1,3 @@
-use Prim.Native.Nat.{◌≤◌}
 use mathlib.Core.Path.{◌≡◌}
 use mathlib.Core.Option.{none}
 use lib.ListN.{length, drop}
@@ -7,7 +6,4 @@ use Rattle.order_rows.specs.Rows.{dependent_in}
 use Rattle.order_rows.proofs.next.Given as goal
 
 abbrev pub invariant-loop-p : goal.invariant-loop-p
-invariant-loop-p l = (l.p ≤ length l.order) × (next_order (length l.order) (dependent_in l.events) (drop l.p l.order) ≡ none)
-
-abbrev pub decreases-loop-p : goal.decreases-loop-p
-decreases-loop-p l = l.p
+invariant-loop-p l = next_order (length l.order) (dependent_in l.events) (drop l.p l.order) ≡ none

@@ -1,30 +1,23 @@
+use Prim.Native.Nat.{◌+◌}
 use native.Mathlib.Omega.{arith}
-use mathlib.Core.Path.{ap, sym, ◌∙◌}
-use lib.ListN.{length, get_or, drop}
+use mathlib.Core.Path.{◌≡◌, sym, ap, ◌∙◌}
+use borrow.Author.Tests.{tests}
+use Rattle.std.proofs.Common.{rules}
+use Rattle.std.specs.List.{find, range_with_len}
+use Rattle.std.specs.Option.{option_map}
+use Rattle.std.proofs.lemmas.Iterator.Adapters.{option_map_id}
+use Rattle.std.proofs.lemmas.Iterator.{YieldsList-from_range}
+use Rattle.std.proofs.lemmas.Iterator.Search.{find_from_yields_List}
+use Rattle.trace.proofs.Runs.{run}
 use Rattle.enumeration.specs.Computed.{raising}
-use Rattle.order_rows.specs.Rows.{dependent_in, least_of}
-use Rattle.order_rows.proofs.Counted.{from_one, one_passes, one_fails, none_left}
+use Rattle.order_rows.specs.Rows.{dependent_in}
+use Rattle.order_rows.proofs.Searches.{find_is, numbers}
 use Rattle.order_rows.proofs.raised_to.Goals as goal
 
-pub returns-then-raises : goal.returns-then-raises
-returns-then-raises c = let a = c.args in
-    let l = c.loop-k in
-    let n = length a.order.now in
-    let p = raising (dependent_in a.events) (get_or a.order.now a.from 0) (drop a.from a.order.now) in
-    let h = one_passes p l.k n c.loop-k-test.true (sym c.raises.ensures ∙ c.if-raises.true) in
-    sym (ap least_of (from_one p n) ∙ l.invariant.2 ∙ ap least_of h)
-
-pub loop-k-preserved : goal.loop-k-preserved
-loop-k-preserved c = let a = c.args in
-    let l = c.loop-k in
-    let n = length a.order.now in
-    let p = raising (dependent_in a.events) (get_or a.order.now a.from 0) (drop a.from a.order.now) in
-    let h = one_fails p l.k n c.loop-k-test.true (sym c.raises.ensures ∙ c.if-raises.false) in
-    (omega arith, omega arith, l.invariant.2 ∙ ap least_of h)
-
 pub returns : goal.returns
-returns c = let a = c.args in
-    let l = c.loop-k in
-    let n = length a.order.now in
-    let p = raising (dependent_in a.events) (get_or a.order.now a.from 0) (drop a.from a.order.now) in
-    sym (ap least_of (from_one p n) ∙ l.invariant.2 ∙ ap least_of (none_left p l.k n (omega (arith, c.loop-k-test.false))))
+returns c =
+    let a = c.args in
+    let test = raising (dependent_in a.events.now) a.x a.numbers.now in
+    let h : option_map (λ x. x) c.find.result ≡ find test (range_with_len 1 a.n) =
+    find_from_yields_List test _ _ c.find.result c.find.ensures.ran (YieldsList-from_range 1 (a.n + 1) a.n (cc) (omega arith)) (λ x b q k. search (rules, tests)) in
+    sym (option_map_id c.find.result) ∙ h ∙ ap (find test) (numbers 1 a.n) ∙ find_is test (run 1 a.n)

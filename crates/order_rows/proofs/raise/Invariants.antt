@@ -1,0 +1,9 @@
+use mathlib.Core.List.{◌∷◌, ◌++◌}
+use lib.ListN.{length, take, drop}
+use Rattle.enumeration.specs.Computed.{remains, refill}
+use Rattle.order_rows.proofs.Filled.{Filled}
+use Rattle.order_rows.proofs.raise.Given as goal
+
+abbrev pub invariant-loop-k : goal.invariant-loop-k
+invariant-loop-k l =
+    Filled (remains (drop l.p l.order) l.z) (length l.order) (take l.p l.order ++ (l.z ∷ refill (length l.order) (drop l.p l.order) l.z)) l.row l.at l.k
