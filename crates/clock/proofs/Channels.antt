@@ -3,7 +3,7 @@
 use Prim.Native.Nat.{ℕ, ◌+◌, ◌≤◌, ◌<◌, max}
 use mathlib.Core.Path.{◌≡◌, refl, ◌∙◌}
 use mathlib.Core.Bool.{Bool, false, not, ◌&&◌, ◌||◌, or-false, or_self}
-use mathlib.Core.Option.{some}
+use Rattle.std.specs.Prelude.{Some}
 use mathlib.Core.List.{◌∷◌}
 use native.Mathlib.Omega.{arith}
 use lib.Dec.{eqb}
@@ -47,7 +47,7 @@ module _ (t : ℕ) (low : t < threads) where
   abbrev Limited : Touch → Type 0
   Limited x = Known (beside_of t x).told
 
-  at_thread : (x : Touch) (u : ℕ) → Limited x → u < threads → told_row x u ≡ same (named x) (some u) || eqb t u
+  at_thread : (x : Touch) (u : ℕ) → Limited x → u < threads → told_row x u ≡ same (named x) (Some u) || eqb t u
   at_thread (Reads v) u k l = rw (ne_eqb (threads + v) u (omega arith))
   at_thread (Writes v) u k l = rw (ne_eqb (threads + variables + v) u (omega arith))
   at_thread (Locks m) u k l = rw (ne_eqb (threads + variables + variables + m) u (omega arith))
@@ -62,7 +62,7 @@ module _ (t : ℕ) (low : t < threads) where
   miss m n d l = other_row n (eqb m n) l ∙ ne_eqb m n d
 
   at_reads : (x : Touch) (w : ℕ) → Limited x → w < variables
-      → told_row x (threads + w) ≡ not (is_write x) && same (variable x) (some w)
+      → told_row x (threads + w) ≡ not (is_write x) && same (variable x) (Some w)
   at_reads (Reads v) w k l = other_row (threads + w) _ (omega arith) ∙ shift threads v w
   at_reads (Writes v) w k l = miss (threads + variables + v) (threads + w) (omega arith) (omega arith)
   at_reads (Locks m) w k l = miss (threads + variables + variables + m) (threads + w) (omega arith) (omega arith)
@@ -70,7 +70,7 @@ module _ (t : ℕ) (low : t < threads) where
   at_reads Nothing w k l = miss t (threads + w) (omega arith) (omega arith)
 
   at_writes : (x : Touch) (w : ℕ) → Limited x → w < variables
-      → told_row x (threads + variables + w) ≡ is_write x && same (variable x) (some w)
+      → told_row x (threads + variables + w) ≡ is_write x && same (variable x) (Some w)
   at_writes (Reads v) w k l = miss (threads + v) (threads + variables + w) (omega arith) (omega arith)
   at_writes (Writes v) w k l = other_row (threads + variables + w) _ (omega arith) ∙ shift (threads + variables) v w
   at_writes (Locks m) w k l =
@@ -78,7 +78,7 @@ module _ (t : ℕ) (low : t < threads) where
   at_writes (Names c) w k l = miss c (threads + variables + w) (omega arith) (omega arith)
   at_writes Nothing w k l = miss t (threads + variables + w) (omega arith) (omega arith)
 
-  at_lock : (x : Touch) (n : ℕ) → Limited x → told_row x (threads + variables + variables + n) ≡ same (lock x) (some n)
+  at_lock : (x : Touch) (n : ℕ) → Limited x → told_row x (threads + variables + variables + n) ≡ same (lock x) (Some n)
   at_lock (Reads v) n k =
       miss (threads + v) (threads + variables + variables + n) (omega arith) (omega arith)
   at_lock (Writes v) n k =

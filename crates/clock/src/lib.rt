@@ -26,9 +26,6 @@ const FIRST_LOCK: usize = FIRST_WRITES + event::VARIABLES as usize;
 
 pub const CLOCKS: usize = (FIRST_LOCK + event::LOCKS as usize) * THREADS;
 
-// The highest count that an entry holds.
-const HIGHEST: u16 = 65535;
-
 // For each thread, how many of its events come before the stamped one or are it.
 #[derive(Clone, Copy)]
 pub struct Stamp {
@@ -167,6 +164,7 @@ fn lock_row(lock: u8) -> usize
 }
 
 // The highest counts in the own row of thread t and in two more, with one more of t.
+#[tactic(auto, unfolding(crate::specs::Clocks::heard))]
 fn listen(clocks: &[u16; CLOCKS], t: u8, rows: Rows) -> Stamp
     requires { (t < threads) × ((rows.first + threads ≤ size) × (rows.second + threads ≤ size)) }
     ensures { result ≡ heard clocks.now t rows }
@@ -185,7 +183,7 @@ fn hear(s: Stamp, counts: &[u16], from: usize) -> Stamp
 {
     let mut r = s;
     for i in 0..THREADS {
-        let count = larger(r.at[i], counts[from + i]);
+        let count = r.at[i].max(counts[from + i]);
         r.at[i] = count;
     }
     r
@@ -197,7 +195,7 @@ fn tell(clocks: &mut [u16; CLOCKS], to: usize, s: Stamp)
     ensures { clocks.new ≡ told_to clocks.old to s }
 {
     for i in 0..THREADS {
-        let count = larger(clocks[to + i], s.at[i]);
+        let count = clocks[to + i].max(s.at[i]);
         clocks[to + i] = count;
     }
 }
@@ -205,7 +203,7 @@ fn tell(clocks: &mut [u16; CLOCKS], to: usize, s: Stamp)
 pub fn larger(x: u16, y: u16) -> u16
     ensures { result ≡ max x y }
 {
-    if x < y { y } else { x }
+    x.max(y)
 }
 
 // One more of thread t. It goes through every entry, so that the counts stay in one vector.
@@ -224,10 +222,7 @@ fn tick(s: Stamp, t: usize) -> Stamp
 pub fn next_count(x: u16, own: bool) -> u16
     ensures { result ≡ cond own (up x) x }
 {
-    if !own {
-        return x;
-    }
-    if x < HIGHEST { x + 1 } else { x }
+    if own { x.saturating_add(1) } else { x }
 }
 
 // The higher count of each thread in two stamps.
@@ -241,9 +236,5 @@ pub fn join(a: Stamp, b: Stamp) -> Stamp
 pub fn count_of(thread: u8, s: Stamp) -> u16
     ensures { result ≡ count_of thread s }
 {
-    let i = thread as usize;
-    if i >= THREADS {
-        return 0;
-    }
-    s.at[i]
+    s.at.get(thread as usize).copied().unwrap_or(0)
 }

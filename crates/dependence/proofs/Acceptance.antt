@@ -5,7 +5,7 @@ use Prim.Native.Nat.{ℕ, suc, ◌<◌}
 use mathlib.Core.Path.{◌≡◌, refl, sym, ap, ◌∙◌}
 use mathlib.Core.Logic.{◌⊎◌, inl, inr}
 use mathlib.Core.Bool.{false, ◌||◌}
-use mathlib.Core.Option.{Option, none, some as just}
+use Rattle.std.specs.Prelude.{Option, Some, None}
 use mathlib.Core.List.{List, ◌∷◌}
 use mathlib.Mathlib.Data.Bool.Basic.{or-eq-false-eq-eq-false-and-eq-false as neither}
 use native.Mathlib.Omega.{arith}
@@ -35,18 +35,18 @@ use Rattle.dependence.proofs.Sameness.{eqb_comm, same_comm, or_left}
 -- ---- the lock and the thread that an effect is about are those that the operation touches
 
 abbrev lock_in : Effect → Option ℕ
-lock_in (Acquires l) = just l
-lock_in (Releases l) = just l
-lock_in (Forks c) = none
-lock_in (Joins c) = none
-lock_in Nothing = none
+lock_in (Acquires l) = Some l
+lock_in (Releases l) = Some l
+lock_in (Forks c) = None
+lock_in (Joins c) = None
+lock_in Nothing = None
 
 abbrev named_in : Effect → Option ℕ
-named_in (Acquires l) = none
-named_in (Releases l) = none
-named_in (Forks c) = just c
-named_in (Joins c) = just c
-named_in Nothing = none
+named_in (Acquires l) = None
+named_in (Releases l) = None
+named_in (Forks c) = Some c
+named_in (Joins c) = Some c
+named_in Nothing = None
 
 both_touched : (op : Operation) → (lock (touches op) ≡ lock_in (effects op)) × (named (touches op) ≡ named_in (effects op))
 both_touched (Read v) = (refl, refl)
@@ -59,21 +59,21 @@ both_touched (Mark m) = (refl, refl)
 
 -- ---- an effect on another lock leaves the lock; one on another thread does not join it
 
-lock_kept : (l t : ℕ) (f : Effect) (k : Lock) → same (lock_in f) (just l) ≡ false → lock_after l t f k ≡ k
+lock_kept : (l t : ℕ) (f : Effect) (k : Lock) → same (lock_in f) (Some l) ≡ false → lock_after l t f k ≡ k
 lock_kept l t (Acquires m) k h = rw h
 lock_kept l t (Releases m) k h = rw h
 lock_kept l t (Forks c) k h = refl
 lock_kept l t (Joins c) k h = refl
 lock_kept l t Nothing k h = refl
 
-not_joined : (t : ℕ) (f : Effect) → same (named_in f) (just t) ≡ false → joins_thread t f ≡ false
+not_joined : (t : ℕ) (f : Effect) → same (named_in f) (Some t) ≡ false → joins_thread t f ≡ false
 not_joined t (Acquires m) h = refl
 not_joined t (Releases m) h = refl
 not_joined t (Forks c) h = refl
 not_joined t (Joins c) h = h
 not_joined t Nothing h = refl
 
-names_same : (t : ℕ) (f : Effect) → names_thread t f ≡ same (named_in f) (just t)
+names_same : (t : ℕ) (f : Effect) → names_thread t f ≡ same (named_in f) (Some t)
 names_same t (Acquires m) = refl
 names_same t (Releases m) = refl
 names_same t (Forks c) = refl
@@ -85,9 +85,9 @@ names_same t Nothing = refl
 -- they touch no lock in common, neither names the thread that the other acts as, nor do they name one thread
 record Independent (a b : Event) : Type 0 where
   locks : same (lock_in (effect_of a)) (lock_in (effect_of b)) ≡ false
-  acting : same (named_in (effect_of a)) (just b.thread) ≡ false
+  acting : same (named_in (effect_of a)) (Some b.thread) ≡ false
   naming : same (named_in (effect_of a)) (named_in (effect_of b)) ≡ false
-  acted : same (named_in (effect_of b)) (just a.thread) ≡ false
+  acted : same (named_in (effect_of b)) (Some a.thread) ≡ false
 
 independent : (a b : Event) → dependent a b ≡ false → Independent a b
 unfolding dependent
@@ -95,8 +95,8 @@ independent a b i =
     let p = (neither (same_thread a b || same_variable_one_write a b || same_lock a b) (one_names_thread_of_other a b)).0 i in
     let q = (neither (same_thread a b || same_variable_one_write a b) (same_lock a b)).0 p.0 in
     let r = (neither (names_thread_of a b) (names_thread_of b a)).0 p.1 in
-    let s = (neither (same (named (touched a)) (just b.thread)) (same (named (touched a)) (named (touched b)))).0 r.0 in
-    let u = (neither (same (named (touched b)) (just a.thread)) (same (named (touched b)) (named (touched a)))).0 r.1 in
+    let s = (neither (same (named (touched a)) (Some b.thread)) (same (named (touched a)) (named (touched b)))).0 r.0 in
+    let u = (neither (same (named (touched b)) (Some a.thread)) (same (named (touched b)) (named (touched a)))).0 r.1 in
     let la = sym (both_touched a.operation).0 in
     let lb = sym (both_touched b.operation).0 in
     let na = sym (both_touched a.operation).1 in
@@ -119,7 +119,7 @@ put_before a b past i =
     d = independent a b i
 
     by_effect : (f : Effect) → same (lock_in (effect_of a)) (lock_in f) ≡ false → same (named_in (effect_of a)) (named_in f) ≡ false
-        → same (named_in f) (just a.thread) ≡ false → effect_rows (a ∷ past) b.thread f ≡ effect_rows past b.thread f
+        → same (named_in f) (Some a.thread) ≡ false → effect_rows (a ∷ past) b.thread f ≡ effect_rows past b.thread f
     by_effect (Acquires k) l n m = rw (lock_kept k a.thread (effect_of a) (lock_of past k) l)
     by_effect (Releases k) l n m = rw (lock_kept k a.thread (effect_of a) (lock_of past k) l)
     by_effect (Forks c) l n m = rw (eqb_comm a.thread c, m, names_same c (effect_of a), n)
@@ -173,9 +173,9 @@ accepted_alike {h = h} s (one_more {past = g} {e = e} r c) =
 -- ---- two independent events swapped
 
 -- of two locks that are not one, a lock is not one or not the other
-not_both : (x y : Option ℕ) (l : ℕ) → same x y ≡ false → (same x (just l) ≡ false) ⊎ (same y (just l) ≡ false)
-not_both none y l h = inl refl
-not_both (just i) y l h = by_test (eqb i l) (λ q. inr (same_comm y (just l) ∙ (rw (eqb-true i l q) at h))) inl
+not_both : (x y : Option ℕ) (l : ℕ) → same x y ≡ false → (same x (Some l) ≡ false) ⊎ (same y (Some l) ≡ false)
+not_both None y l h = inl refl
+not_both (Some i) y l h = by_test (eqb i l) (λ q. inr (same_comm y (Some l) ∙ (rw (eqb-true i l q) at h))) inl
 
 -- the lock l after the event
 abbrev after : Event → ℕ → Lock → Lock
@@ -191,13 +191,13 @@ alike_swapped a b past i =
       on_lock = λ l. one_keeps l (lock_of past l) (not_both (lock_in (effect_of a)) (lock_in (effect_of b)) l (independent a b i).locks);
     }
   where
-    keeps : (e f : Event) (l : ℕ) (k : Lock) → same (lock_in (effect_of e)) (just l) ≡ false
+    keeps : (e f : Event) (l : ℕ) (k : Lock) → same (lock_in (effect_of e)) (Some l) ≡ false
         → after f l (after e l k) ≡ after e l (after f l k)
     keeps e f l k h =
         ap (after f l) (lock_kept l e.thread (effect_of e) k h)
         ∙ sym (lock_kept l e.thread (effect_of e) (after f l k) h)
 
-    one_keeps : (l : ℕ) (k : Lock) → (same (lock_in (effect_of a)) (just l) ≡ false) ⊎ (same (lock_in (effect_of b)) (just l) ≡ false)
+    one_keeps : (l : ℕ) (k : Lock) → (same (lock_in (effect_of a)) (Some l) ≡ false) ⊎ (same (lock_in (effect_of b)) (Some l) ≡ false)
         → after b l (after a l k) ≡ after a l (after b l k)
     one_keeps l k (inl h) = keeps a b l k h
     one_keeps l k (inr h) = sym (keeps b a l k h)

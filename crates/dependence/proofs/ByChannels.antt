@@ -4,7 +4,7 @@ use Prim.Native.Nat.{ℕ}
 use mathlib.Core.Path.{◌≡◌, refl}
 use mathlib.Core.Bool.{Bool, true, false, not, ◌&&◌, ◌||◌}
 use mathlib.Core.Bool.{or-true, or-false, and-true, and_comm, or_comm, or_assoc, or_self_left}
-use mathlib.Core.Option.{Option, some, none}
+use Rattle.std.specs.Prelude.{Option, Some, None}
 use mathlib.Core.List.{◌∷◌}
 use lib.Dec.{eqb}
 use Rattle.event.specs.declared.Event.{Event}
@@ -16,9 +16,9 @@ use Rattle.dependence.specs.Dependence.{variable, lock, named, is_write, same, s
 use Rattle.dependence.specs.Channels.{thread, heard_at, tells, hears}
 use Rattle.dependence.proofs.Sameness.{eqb_comm, same_comm, or_left}
 
-same_none : (x : Option ℕ) → same x none ≡ false
-same_none none = refl
-same_none (some i) = refl
+same_none : (x : Option ℕ) → same x None ≡ false
+same_none None = refl
+same_none (Some i) = refl
 
 -- ---- the parts of dependence, and the channels, at each touch of the second event
 -- e: they have one thread; v: the first touches the variable; w: it writes; l: it touches the lock;
@@ -51,24 +51,24 @@ by_channels a b = go (touched b)
     x = touched a
 
     acting : Bool
-    acting = same (named x) (some b.thread)
+    acting = same (named x) (Some b.thread)
 
     -- at whatever b touches
     go : (y : Touch) → same_thread a b || same (variable x) (variable y) && (is_write x || is_write y) || same (lock x) (lock y)
-        || (acting || same (named x) (named y) || (same (named y) (some a.thread) || same (named y) (named x)))
+        || (acting || same (named x) (named y) || (same (named y) (Some a.thread) || same (named y) (named x)))
         ≡ any (tells a) (thread b.thread ∷ heard_at y)
     go (Reads v) =
         rw (same_none (lock x), same_none (named x))
-        (at_read (same_thread a b) (same (variable x) (some v)) (is_write x) acting)
+        (at_read (same_thread a b) (same (variable x) (Some v)) (is_write x) acting)
     go (Writes v) =
         rw (same_none (lock x), same_none (named x))
-        (at_write (same_thread a b) (same (variable x) (some v)) (is_write x) acting)
+        (at_write (same_thread a b) (same (variable x) (Some v)) (is_write x) acting)
     go (Locks l) =
         rw (same_none (variable x), same_none (named x))
-        (at_lock (same_thread a b) (same (lock x) (some l)) acting)
+        (at_lock (same_thread a b) (same (lock x) (Some l)) acting)
     go (Names t) =
-        rw (same_none (variable x), same_none (lock x), eqb_comm t a.thread, same_comm (some t) (named x))
-        (at_name (same_thread a b) acting (same (named x) (some t)) (eqb a.thread t))
+        rw (same_none (variable x), same_none (lock x), eqb_comm t a.thread, same_comm (Some t) (named x))
+        (at_name (same_thread a b) acting (same (named x) (Some t)) (eqb a.thread t))
     go Nothing =
         rw (same_none (variable x), same_none (lock x), same_none (named x))
         (at_lock (same_thread a b) false acting)

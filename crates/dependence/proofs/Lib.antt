@@ -1,6 +1,5 @@
 -- Laws of dependence.
 pub mod Sameness
-pub mod Decided
 pub mod Dependent
 pub mod ByChannels
 pub mod Acceptance

@@ -3,7 +3,7 @@
 use Prim.Native.Nat.{ℕ}
 use mathlib.Core.Path.{◌≡◌, refl, sym}
 use mathlib.Core.Bool.{Bool, true, false, ◌||◌}
-use mathlib.Core.Option.{Option, some, none}
+use Rattle.std.specs.Prelude.{Option, Some, None}
 use lib.Dec.{eqb}
 use borrow.Author.Tests.{eqb-true, eq-eqb}
 use Rattle.trace.proofs.Lists.{same_test}
@@ -16,10 +16,10 @@ eqb_comm m n = same_test (eqb m n) (eqb n m) (turn m n) (turn n m)
     turn i j h = eq-eqb j i (sym (eqb-true i j h))
 
 pub same_comm : (x y : Option ℕ) → same x y ≡ same y x
-same_comm none none = refl
-same_comm none (some j) = refl
-same_comm (some i) none = refl
-same_comm (some i) (some j) = eqb_comm i j
+same_comm None None = refl
+same_comm None (Some j) = refl
+same_comm (Some i) None = refl
+same_comm (Some i) (Some j) = eqb_comm i j
 
 pub or_left : (a b c : Bool) → a || (b || c) ≡ b || (a || c)
 or_left true true c = refl

@@ -1,8 +1,7 @@
 -- What vector clocks go by: an event tells some channels and hears some, and depends on those before it that tell one which
 -- it hears (proofs/ByChannels.antt).
 -- Assumes nothing.
-use Rattle.std.specs.Prelude.{ℕ, Bool, not, ◌&&◌, ◌||◌, List, [], ◌∷◌, eqb}
-use Rattle.std.proofs.Math.Option.{some}
+use Rattle.std.specs.Prelude.{ℕ, Bool, not, ◌&&◌, ◌||◌, List, [], ◌∷◌, eqb, Some}
 use Rattle.event.specs.declared.Event.{Event}
 use Rattle.event.specs.declared.Touch.{Touch}
 use Rattle.event.specs.declared.Touch.TheVariants.{Reads, Writes, Locks, Names, Nothing}
@@ -15,10 +14,10 @@ pub data Channel : Type 0 where
 
 -- an event tells its own thread and one that it forks or joins, the reads or the writes of its variable, and its lock
 abbrev pub tells : Event → Channel → Bool
-tells e (thread t) = same (named (touched e)) (some t) || eqb e.thread t
-tells e (reads_of v) = not (is_write (touched e)) && same (variable (touched e)) (some v)
-tells e (writes_of v) = is_write (touched e) && same (variable (touched e)) (some v)
-tells e (lock_of l) = same (lock (touched e)) (some l)
+tells e (thread t) = same (named (touched e)) (Some t) || eqb e.thread t
+tells e (reads_of v) = not (is_write (touched e)) && same (variable (touched e)) (Some v)
+tells e (writes_of v) = is_write (touched e) && same (variable (touched e)) (Some v)
+tells e (lock_of l) = same (lock (touched e)) (Some l)
 
 abbrev pub heard_at : Touch → List Channel
 heard_at (Reads v) = writes_of v ∷ []

@@ -1,33 +1,32 @@
 -- Which events are dependent. Document 01, "Order".
 -- Assumes nothing.
-use Rattle.std.specs.Prelude.{ℕ, Bool, true, false, ◌&&◌, ◌||◌, eqb}
-use Rattle.std.proofs.Math.Option.{Option, some, none}
+use Rattle.std.specs.Prelude.{ℕ, Bool, true, false, ◌&&◌, ◌||◌, eqb, Option, Some, None}
 use Rattle.event.specs.declared.Touch.{Touch}
 use Rattle.event.specs.declared.Touch.TheVariants.{Reads, Writes, Locks, Names, Nothing}
 use Rattle.event.specs.declared.Event.{Event}
 use Rattle.event.specs.Effects.{touched}
 
--- the variable touched, the lock touched, and the thread forked or joined; `none` where there is none
+-- the variable touched, the lock touched, and the thread forked or joined; none where there is none
 abbrev pub variable : Touch → Option ℕ
-variable (Reads v) = some v
-variable (Writes v) = some v
-variable (Locks l) = none
-variable (Names t) = none
-variable Nothing = none
+variable (Reads v) = Some v
+variable (Writes v) = Some v
+variable (Locks l) = None
+variable (Names t) = None
+variable Nothing = None
 
 abbrev pub lock : Touch → Option ℕ
-lock (Reads v) = none
-lock (Writes v) = none
-lock (Locks l) = some l
-lock (Names t) = none
-lock Nothing = none
+lock (Reads v) = None
+lock (Writes v) = None
+lock (Locks l) = Some l
+lock (Names t) = None
+lock Nothing = None
 
 abbrev pub named : Touch → Option ℕ
-named (Reads v) = none
-named (Writes v) = none
-named (Locks l) = none
-named (Names t) = some t
-named Nothing = none
+named (Reads v) = None
+named (Writes v) = None
+named (Locks l) = None
+named (Names t) = Some t
+named Nothing = None
 
 abbrev pub is_write : Touch → Bool
 is_write (Reads v) = false
@@ -38,9 +37,9 @@ is_write Nothing = false
 
 -- both are there, and they are equal
 abbrev pub same : Option ℕ → Option ℕ → Bool
-same none y = false
-same (some i) none = false
-same (some i) (some j) = eqb i j
+same None y = false
+same (Some i) None = false
+same (Some i) (Some j) = eqb i j
 
 -- "they have the same thread"
 abbrev pub same_thread : Event → Event → Bool
@@ -56,7 +55,7 @@ same_lock a b = same (lock (touched a)) (lock (touched b))
 
 -- a forks or joins a thread which b acts as, forks or joins
 abbrev pub names_thread_of : Event → Event → Bool
-names_thread_of a b = same (named (touched a)) (some b.thread) || same (named (touched a)) (named (touched b))
+names_thread_of a b = same (named (touched a)) (Some b.thread) || same (named (touched a)) (named (touched b))
 
 -- "one forks or joins a thread which the other acts as, forks or joins"
 abbrev pub one_names_thread_of_other : Event → Event → Bool

@@ -2,4 +2,3 @@
 pub mod Dependence
 pub mod Order
 pub mod Channels
-pub mod Numbered

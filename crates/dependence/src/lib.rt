@@ -1,14 +1,13 @@
 // Which events of a log are dependent, and what vector clocks go by: definitions in specs/, their laws in proofs/; and dependence decided.
 #![tactic(auto)]
 
-ghost use Rattle.std.specs.Prelude.{◌≡◌, ◌&&◌, ◌||◌, ℕ, eqb};
-ghost use Rattle.std.proofs.Math.Option.{Option, some};
+ghost use Rattle.std.specs.Prelude.{◌≡◌, ◌&&◌, ◌||◌, eqb, Some};
 ghost use Rattle.dependence.specs.Dependence.{variable, lock, named, is_write, same, dependent};
-ghost use Rattle.dependence.specs.Numbered.{or_zero};
 
 use event::{Event, Touch};
 
 // Whether the two events are dependent, by document 01's list.
+#[tactic(auto, unfolding(crate::specs::Dependence::dependent))]
 pub fn depend(a: Event, b: Event) -> bool
     ensures { result ≡ dependent a b }
 {
@@ -21,7 +20,7 @@ pub fn depend(a: Event, b: Event) -> bool
 
 // The same by what the events touch, and their threads.
 fn touching(x: Touch, y: Touch, s: u8, t: u8) -> bool
-    ensures { result ≡ eqb s t || (same (variable x) (variable y) && (is_write x || is_write y)) || same (lock x) (lock y) || ((same (named x) (some t) || same (named x) (named y)) || (same (named y) (some s) || same (named y) (named x))) }
+    ensures { result ≡ eqb s t || (same (variable x) (variable y) && (is_write x || is_write y)) || same (lock x) (lock y) || ((same (named x) (Some t) || same (named x) (named y)) || (same (named y) (Some s) || same (named y) (named x))) }
 {
     let names = names_thread_of(x, y, t) | names_thread_of(y, x, s);
     let touch = (s == t) | same_variable_one_write(x, y) | same_lock(x, y);
@@ -45,65 +44,53 @@ fn same_lock(x: Touch, y: Touch) -> bool
 
 // Whether the one forks or joins a thread which the other acts as, forks or joins; t is the thread that the other acts as.
 fn names_thread_of(x: Touch, y: Touch, t: u8) -> bool
-    ensures { result ≡ same (named x) (some t) || same (named x) (named y) }
+    ensures { result ≡ same (named x) (Some t) || same (named x) (named y) }
 {
-    let acts = same(named(x), t as u16 + 1);
+    let acts = same(named(x), Some(t));
     let other = same(named(x), named(y));
     acts | other
 }
 
-// The variable touched, the lock touched, and the thread forked or joined, each with one added; 0 where there is none.
-fn variable(x: Touch) -> u16
-    ensures { result ≡ or_zero (variable x) }
+// The variable touched, the lock touched, and the thread forked or joined; none where there is none.
+fn variable(x: Touch) -> Option<u8>
+    ensures { result ≡ variable x }
 {
     match x {
-        Touch::Reads { variable } => variable as u16 + 1,
-        Touch::Writes { variable } => variable as u16 + 1,
-        Touch::Locks { lock: _ } => 0,
-        Touch::Names { child: _ } => 0,
-        Touch::Nothing => 0,
+        Touch::Reads { variable } | Touch::Writes { variable } => Some(variable),
+        _ => None,
     }
 }
 
-fn lock(x: Touch) -> u16
-    ensures { result ≡ or_zero (lock x) }
+fn lock(x: Touch) -> Option<u8>
+    ensures { result ≡ lock x }
 {
     match x {
-        Touch::Reads { variable: _ } => 0,
-        Touch::Writes { variable: _ } => 0,
-        Touch::Locks { lock } => lock as u16 + 1,
-        Touch::Names { child: _ } => 0,
-        Touch::Nothing => 0,
+        Touch::Locks { lock } => Some(lock),
+        _ => None,
     }
 }
 
-fn named(x: Touch) -> u16
-    ensures { result ≡ or_zero (named x) }
+fn named(x: Touch) -> Option<u8>
+    ensures { result ≡ named x }
 {
     match x {
-        Touch::Reads { variable: _ } => 0,
-        Touch::Writes { variable: _ } => 0,
-        Touch::Locks { lock: _ } => 0,
-        Touch::Names { child } => child as u16 + 1,
-        Touch::Nothing => 0,
+        Touch::Names { child } => Some(child),
+        _ => None,
     }
 }
 
 fn is_write(x: Touch) -> bool
     ensures { result ≡ is_write x }
 {
-    match x {
-        Touch::Reads { variable: _ } => false,
-        Touch::Writes { variable: _ } => true,
-        Touch::Locks { lock: _ } => false,
-        Touch::Names { child: _ } => false,
-        Touch::Nothing => false,
-    }
+    matches!(x, Touch::Writes { .. })
 }
 
 // Whether both are there, and they are equal.
-fn same(x: u16, y: u16) -> bool
-    ensures { (a b : Option ℕ) → x ≡ or_zero a → y ≡ or_zero b → result ≡ same a b }
+fn same(x: Option<u8>, y: Option<u8>) -> bool
+    ensures { result ≡ same x y }
 {
-    (x != 0) & (x == y)
+    match (x, y) {
+        (Some(i), Some(j)) => i == j,
+        _ => false,
+    }
 }

@@ -1,4 +1,3 @@
-use borrow.Author.Rules.{rules}
 use Rattle.clock.proofs.History.{arrived}
 use Rattle.clock.proofs.advance.Goals as goal
 

@@ -1,4 +1,3 @@
-use Prim.Native.Nat.{◌≤◌, ◌-◌}
 use native.Mathlib.Omega.{arith}
 use mathlib.Core.Path.{◌≡◌, refl}
 use native.Mathlib.Nat.{zero-add}
@@ -15,7 +14,7 @@ loop-i-init c = (search rules, refl)
 
 pub loop-i-preserved : goal.loop-i-preserved
 unfolding raised updated
-loop-i-preserved c = (search rules, rw (add-one, zero-add, c.larger-count.ensures, c.loop-i.invariant.1))
+loop-i-preserved c = (search rules, rw (add-one, zero-add, c.max-count.ensures, c.loop-i.invariant.1))
 
 pub returns : goal.returns
 returns c = let k : c.loop-i.i ≡ threads = omega arith in rw k at c.loop-i.invariant.1

@@ -1,15 +1,12 @@
-use Prim.Native.Nat.{ℕ, ◌≤◌, ◌-◌}
+use Prim.Native.Nat.{ℕ}
 use mathlib.Core.Path.{◌≡◌, refl, ap}
 use mathlib.Core.List.{List}
-use mathlib.Core.Bool.{cond}
 use native.Mathlib.Nat.{zero-add}
 use native.Mathlib.Numerals.{add-one}
 use native.Mathlib.Omega.{arith}
 use borrow.Author.Rules.{rules}
-use lib.Dec.{eqb}
 use Rattle.event.specs.Limits.{threads}
 use Rattle.event.specs.Updated.{updated}
-use Rattle.clock.specs.Clocks.{up}
 use Rattle.clock.proofs.tick.Goals as goal
 
 pub loop-i-init : goal.loop-i-init
