@@ -1,17 +1,17 @@
 -- The writing calls that a load still needs, from a place on: the first of them, one made, and the last.
-use Prim.Native.Nat.{ℕ, zero, suc, ◌-◌, ◌<◌, ◌≤◌}
+use Prim.Native.Nat.{ℕ, zero, suc, ◌+◌, ◌-◌, ◌<◌, ◌≤◌}
 use native.Mathlib.Omega.{arith}
 use native.Mathlib.Nat.{zero-add}
 use mathlib.Core.Path.{◌≡◌, refl, sym, ap, subst, ◌∙◌}
 use mathlib.Core.List.{List}
 use lib.ListN.{length}
+use Rattle.std.specs.Prelude.{Result, Ok, Err}
 use Rattle.event.specs.declared.Event.{Event}
 use Rattle.event.specs.Limits.{events}
 use Rattle.event.specs.Slots.{slot_of}
 use Rattle.event.specs.Range.{range_refusal}
 use Rattle.command.specs.Commands.{event_bytes, closing}
-use Rattle.writer.specs.declared.Written.{Written}
-use Rattle.writer.specs.declared.Written.TheVariants.{Next, Refused}
+use Rattle.event.specs.declared.refusal.Refused.{Refused}
 use Rattle.writer.specs.Writing.{Writing, written, refused, writing, written_is, put, buffer_after}
 use Rattle.event_log.specs.Calls.{WriteCalls, end, more}
 use Rattle.event_log.proofs.RowBytes.{same_place}
@@ -57,15 +57,18 @@ first_written state (suc left) at buffer {last} {after} l (more p w) q =
     let fewer : suc left - 1 ≡ left = omega arith in
     rw fewer (subst (λ (n : ℕ). ToWrite (next_state state) left n (buffer_then state buffer at) last after) (same_place p q) w)
 
--- the same of what the program has: the next state, its event, the answer and the buffer afterwards
-pub one_call : (state left at : ℕ) (buffer : List ℕ) {last : ℕ} {after : List ℕ} → 0 < left → ToWrite state left at buffer last after
-    → (next : ℕ) → next ≡ next_state state → (e : Event) → e ≡ event_in next
-    → (r : Written) (then : List ℕ) → (written_is r ≡ writing (range_refusal (slot_of e)) (event_bytes e) buffer at) × (then ≡ buffer_after (range_refusal (slot_of e)) (event_bytes e) buffer at)
-    → ((k o : ℕ) → r ≡ Refused k o → ⊥) × ((behind : ℕ) → r ≡ Next behind → ToWrite next (left - 1) behind then last after)
-one_call state left at buffer l w next p e q r then a = (
-  λ k o h. first_not_refused state left at buffer l w (rw (q, p) at (sym a.0 ∙ ap written_is h)),
-  λ behind h. rw (a.1, q, p) (first_written state left at buffer l w (rw (q, p) at (sym a.0 ∙ ap written_is h))),
-)
+-- the same of what the program has, before event number i + 1: the next state, its event, the answer and the buffer afterwards
+module _ (state count i at : ℕ) (buffer : List ℕ) {last : ℕ} {after : List ℕ} (l : i < count) (w : ToWrite state (count - i) at buffer last after)
+    (next : ℕ) (p : next ≡ next_state state) (e : Event) (q : e ≡ event_in next)
+    (r : Result ℕ Refused) (a : written_is r ≡ writing (range_refusal (slot_of e)) (event_bytes e) buffer at) where
+  pub never_refused : (f : Refused) → r ≡ Err f → ⊥
+  never_refused f h = first_not_refused state (count - i) at buffer (omega arith) w (rw (q, p) at (sym a ∙ ap written_is h))
+
+  pub one_call : (then : List ℕ) → then ≡ buffer_after (range_refusal (slot_of e)) (event_bytes e) buffer at
+      → (behind : ℕ) → r ≡ Ok behind → ToWrite next (count - (i + 1)) behind then last after
+  one_call then b behind h =
+      let fewer : count - (i + 1) ≡ count - i - 1 = omega arith in
+      rw (fewer, b, q, p) (first_written state (count - i) at buffer (omega arith) w (rw (q, p) at (sym a ∙ ap written_is h)))
 
 -- the closing 00 is left
 pub all_written : (state left : ℕ) → left ≡ 0 → {at last : ℕ} {buffer after : List ℕ} → ToWrite state left at buffer last after

@@ -8,6 +8,7 @@ use lib.ListN.{length, get_or, length-append}
 use lib.Seq.{ext_get_or}
 use Rattle.event.specs.declared.Operation.{Operation}
 use Rattle.event.specs.declared.Operation.TheVariants.{Read, Write, Acquire, Release, Fork, Join, Mark}
+use Rattle.event.specs.declared.Event.{Event}
 use Rattle.event.specs.Limits.{events}
 use Rattle.event.specs.Slots.{no_event}
 use Rattle.rules.specs.Accepted.{Accepted}
@@ -83,6 +84,13 @@ one_longer state zero l = absurd (omega arith)
 one_longer state (suc left) l =
     let fewer : suc left - 1 ≡ left = omega arith in
     rw fewer (length-append (event_bytes (event_in (next_state state))) (load_bytes (next_state state) left))
+
+-- of a load's events, some counted: one more is
+pub counted : (state count i size total next bytes : ℕ) (e : Event) → size + length (load_bytes state (count - i)) ≡ total + 1 → i < count
+    → next ≡ next_state state → e ≡ event_in next → bytes ≡ length (event_bytes e) → size + bytes + length (load_bytes next (count - (i + 1))) ≡ total + 1
+counted state count i size total next bytes e h l p q r =
+    let fewer : count - (i + 1) ≡ count - i - 1 = omega arith in
+    rw (fewer, r, q, p) (omega (arith, one_longer state (count - i) (omega arith)))
 
 -- the closing 00 alone
 pub none_longer : (state left : ℕ) → left ≡ 0 → length (load_bytes state left) ≡ 1
