@@ -10,7 +10,6 @@ ghost use Rattle.passes.specs.LastPlaces.{noted, last_by};
 ghost use Rattle.passes.specs.Passes.{Leads, FirstAbove, Stamped};
 
 use clock::Stamp;
-use command::EventRead;
 use event::{Event, Slot};
 
 // While the clocks run they take each event, and its place is kept as the last one for each slot that has its key: the event's stamp, or
@@ -40,19 +39,13 @@ pub fn follow(
 }
 
 // Keeps the place of an event as the last one for each slot that has its key, which every slot that it fits has.
+#[tactic(auto, unfolding(event::specs::Updated::updated))]
 fn note(last: &mut [u16; event::SLOTS], keys: [u16; event::SLOTS], key: u16, place: u16)
     ensures { last.new ≡ noted key place keys last.old }
 {
     for j in 0..event::SLOTS {
-        let x = either(keys[j] == key, place, last[j]);
-        last[j] = x;
+        last[j] = if keys[j] == key { place } else { last[j] };
     }
-}
-
-fn either(b: bool, x: u16, y: u16) -> u16
-    ensures { result ≡ cond b x y }
-{
-    if b { x } else { y }
 }
 
 // A pass from the start of a log to its event number n: the clocks take each event, the last places are kept. The stamp of that event.
@@ -69,16 +62,13 @@ pub fn pass(
         at: [0; clock::THREADS],
     };
     let mut at: usize = 0;
-    let mut i: usize = 0;
-    while i < n {
-        let read = command::read_event(log, at);
-        let EventRead::Event { event, next } = read else {
+    for i in 0..n {
+        let Ok(Some((event, next))) = command::read_event(log, at) else {
             return stamp;
         };
         let key = slots::key_of(event::slot_of(event));
         stamp = follow(true, clocks, last, keys, key, event);
         at = next;
-        i += 1;
     }
     stamp
 }
@@ -90,18 +80,15 @@ pub fn first_above(log: &[u8], n: usize, slot: Slot, barred: u16) -> usize
 {
     let mut place: u16 = 0;
     let mut at: usize = 0;
-    let mut i: usize = 0;
-    while i < n {
-        let read = command::read_event(log, at);
-        let EventRead::Event { event, next } = read else {
+    for i in 0..n {
+        let Ok(Some((event, next))) = command::read_event(log, at) else {
             return 0;
         };
         place = clock::next_count(place, event.thread == slot.thread);
-        at = next;
-        i += 1;
         if above(slot, event, place, barred) {
-            return i;
+            return i + 1;
         }
+        at = next;
     }
     0
 }
@@ -109,8 +96,5 @@ pub fn first_above(log: &[u8], n: usize, slot: Slot, barred: u16) -> usize
 fn above(slot: Slot, e: Event, place: u16, barred: u16) -> bool
     ensures { result ≡ exceeds (fits slot e) place barred }
 {
-    if !event::fit(slot, e) {
-        return false;
-    }
-    barred < place
+    event::fit(slot, e) && barred < place
 }

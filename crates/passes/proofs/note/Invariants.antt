@@ -1,14 +1,10 @@
 use Prim.Native.Nat.{◌-◌, ◌≤◌}
-use native.Mathlib.Omega.{arith}
-use mathlib.Core.Path.{◌≡◌, refl}
+use mathlib.Core.Path.{◌≡◌}
 use Rattle.event.specs.Limits.{slots as slot_limit}
-use native.Mathlib.Numerals.{add-one}
-use native.Mathlib.Nat.{zero-add}
 use mathlib.Core.Bool.{cond}
 use lib.Dec.{eqb}
 use lib.ListN.{get_or}
 use Rattle.event.specs.Updated.{updated}
-use borrow.Author.Rules.{rules}
 use Rattle.passes.proofs.note.Given as goal
 
 abbrev pub invariant-loop-j : goal.invariant-loop-j
