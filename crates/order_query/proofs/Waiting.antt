@@ -3,35 +3,33 @@ use Prim.Native.Nat.{ℕ, ◌+◌, ◌<◌, ◌≤◌}
 use native.Mathlib.Numerals.{add-one}
 use native.Mathlib.Omega.{arith}
 use mathlib.Core.Path.{◌≡◌, refl, sym, subst, ◌∙◌}
-use mathlib.Core.Logic.{◌↔◌}
-use mathlib.Core.Bool.{true, ◌&&◌, and-eq-true_iff}
 use mathlib.Core.List.{List, [], ◌∷◌, ◌++◌, reverse, reverse-cons}
-use lib.Dec.{eqb, leb, ltb}
+use lib.Dec.{eqb}
 use lib.ListN.{length, length-append, length-reverse}
-use borrow.Author.Tests.{eqb-true, eqb-false, lt-ltb, ltb-true, leb-true, le-leb}
+use borrow.Author.Tests.{eqb-true, eqb-false, lt-ltb}
 use Rattle.event.proofs.Tests.{by_test}
 use Rattle.event.specs.declared.Event.{Event}
 use Rattle.event.specs.Limits.{threads}
-use Rattle.event.specs.Slots.{no_event}
 use Rattle.trace.specs.Before.{Numbered}
-use Rattle.trace.proofs.Lists.{both_ways}
-use Rattle.trace.proofs.Numbers.{numbered_among, numbered_shrink, numbered_at, at_numbered, event_new}
+use Rattle.trace.proofs.Numbers.{numbered_among, at_numbered, event_new}
 use Rattle.clock.specs.declared.Stamp.{Stamp}
 use Rattle.clock.specs.Arrivals.{StampOf, ClocksOf, Arrived}
 use Rattle.relation.specs.Relation.{IsStamped}
 use Rattle.relation.proofs.Comparison.{compared_right, stamped_stays}
 use Rattle.event_log.specs.Whole.{read_log, accepted}
-use Rattle.order_query.specs.declared.Awaited.{Awaited}
-use Rattle.order_query.specs.Query.{IsNumber, Answers, no_number, relates}
-use Rattle.order_query.specs.Awaiting.{not_yet, met, is_number, answer_at}
+use Rattle.relation.specs.declared.StampedEvent.{StampedEvent}
+use Rattle.order_query.specs.Query.{IsNumber, Answers, no_number, relates, related, query_refused}
+use Rattle.order_query.specs.Awaiting.{stamped}
+use Rattle.relation.specs.Compared.{compared}
+use Rattle.std.specs.Prelude.{Option, Some, None, cond}
 
--- w waits for event number i: if it is among those that passed, w has its thread, its place and its stamp
-pub record Waits (es : List Event) (i : ℕ) (w : Awaited) : Type 0 where
-  pub number : w.number ≡ i
-  pub kept : (a : Event) → Numbered es i a → IsStamped es i w.event
+-- what is kept of event number i of those that passed: nothing, as there is no such event, or its thread, its place and its stamp
+abbrev pub Waits : List Event → ℕ → Option StampedEvent → Type 0
+Waits es i None = IsNumber es i → ⊥
+Waits es i (Some w) = IsStamped es i w
 
-pub none_passed : (i : ℕ) → Waits [] i (not_yet i)
-none_passed i = record { number = refl; kept = λ a n. let u = numbered_among n in absurd (let l : 1 ≤ i = u.0 in let k : i ≤ 0 = u.1 in let f : ⊥ = omega arith in f) }
+pub none_passed : (i : ℕ) → Waits [] i None
+none_passed i u = let l : 1 ≤ i = u.0 in let k : i ≤ 0 = u.1 in let f : ⊥ = omega arith in f
 
 -- ---- the next event passes
 
@@ -45,68 +43,49 @@ module _ (es : List Event) (e : Event) (s : Stamp) (low : e.thread < threads) (s
   size : length longer ≡ n
   size = length-append es (e ∷ [])
 
-  newest : (a : Event) → Numbered longer n a → a ≡ e
-  newest a x = sym (numbered_at e x) ∙ rw (add-one (length es)) (event_new e es e)
+  newest : Numbered longer n e
+  newest =
+      subst (λ (a : Event). Numbered longer n a) (rw (add-one (length es)) (event_new e es e))
+      (at_numbered e longer n (omega arith, let k : length longer ≡ n = size in omega arith))
 
-  pub meets_next : (i : ℕ) (w : Awaited) → Waits es i w → Waits longer i (met w n e.thread s)
-  meets_next i w h =
-      by_test (eqb n w.number)
-      (λ q.
-      let p : n ≡ i = eqb-true _ _ q ∙ h.number in
-      rw q (record {
-        number = p;
-        kept = λ a x.
-            rw (sym p)
-            (record {
-              event = e;
-              numbered = subst (λ (b : Event). Numbered longer n b) (newest a (rw (sym p) at x)) (rw (sym p) at x);
-              thread = refl;
-              known = low;
-              place = rw (lt-ltb e.thread threads low) (st e.thread low);
-              stamp = st;
-            });
-      }))
-      (λ q.
-      rw q (record {
-        number = h.number;
-        kept = λ a x.
-            let d : n ≡ i → ⊥ = λ p. eqb-false _ _ q (p ∙ sym h.number) in
-            let u : i ≤ n = rw size at (numbered_among x).1 in
-            stamped_stays es (e ∷ []) (h.kept a (numbered_shrink es (e ∷ []) (omega arith) x));
-      }))
+  pub meets_next : (i : ℕ) (w : Option StampedEvent) → Waits es i w → Waits longer i (cond (eqb n i) (Some (stamped e.thread s)) w)
+  meets_next i w h = by_test (eqb n i) (λ q. rw q (subst (λ (k : ℕ). IsStamped longer k (stamped e.thread s)) (eqb-true n i q) come)) (λ q. rw q (stays w h (eqb-false n i q)))
+    where
+      come : IsStamped longer n (stamped e.thread s)
+      come =
+          record {
+            event = e;
+            numbered = newest;
+            thread = refl;
+            known = low;
+            place = rw (lt-ltb e.thread threads low) (st e.thread low);
+            stamp = st;
+          }
+
+      stays : (w : Option StampedEvent) → Waits es i w → (n ≡ i → ⊥) → Waits longer i w
+      stays None h d = λ u. h (u.0, let k : i ≤ n = rw size at u.1 in let m : i ≡ n → ⊥ = λ z. d (sym z) in omega arith)
+      stays (Some v) h d = stamped_stays es (e ∷ []) h
 
 -- one event more: the clocks hold it, and both that are waited for have met it
-pub next : (past : List Event) (i j taken : ℕ) (v w : Awaited) (e : Event) (s : Stamp) (clocks : List ℕ) → taken ≡ length past → e.thread < threads
+pub next : (past : List Event) (i j taken : ℕ) (v w : Option StampedEvent) (e : Event) (s : Stamp) (clocks : List ℕ) → taken ≡ length past → e.thread < threads
     → Waits (reverse past) i v → Waits (reverse past) j w → Arrived (reverse past) e s clocks
-    → ClocksOf (reverse (e ∷ past)) clocks × Waits (reverse (e ∷ past)) i (met v (taken + 1) e.thread s) × Waits (reverse (e ∷ past)) j (met w (taken + 1) e.thread s)
+    → ClocksOf (reverse (e ∷ past)) clocks × Waits (reverse (e ∷ past)) i (cond (eqb (taken + 1) i) (Some (stamped e.thread s)) v) × Waits (reverse (e ∷ past)) j (cond (eqb (taken + 1) j) (Some (stamped e.thread s)) w)
 next past i j taken v w e s clocks c low g h a =
     let n : taken ≡ length (reverse past) = c ∙ sym (length-reverse past) in
     rw (reverse-cons e past, n) (a.holds, meets_next (reverse past) e s low a.stamp i v g, meets_next (reverse past) e s low a.stamp j w h)
 
 -- ---- the end of the log: the answer
 
-module _ (es : List Event) (count : ℕ) (c : count ≡ length es) where
-  number_iff : (i : ℕ) → (is_number i count ≡ true) ↔ IsNumber es i
-  number_iff i =
-      let t = and-eq-true_iff (ltb 0 i) (leb i count) in (
-        λ h. (ltb-true 0 i (t.0 h).0, subst (λ (k : ℕ). i ≤ k) c (leb-true i count (t.0 h).1)),
-        λ u. t.1 (lt-ltb 0 i u.0, le-leb i count (rw c u.1)),
-      )
+-- an event that has a stamp has a number
+has_number : {es : List Event} {i : ℕ} {w : StampedEvent} → IsStamped es i w → IsNumber es i
+has_number p = numbered_among p.numbered
 
-  both_iff : (i j : ℕ) → (is_number i count && is_number j count ≡ true) ↔ (IsNumber es i × IsNumber es j)
-  both_iff i j =
-      let t = and-eq-true_iff (is_number i count) (is_number j count) in (
-        λ h. ((number_iff i).0 (t.0 h).0, (number_iff j).0 (t.0 h).1),
-        λ u. t.1 ((number_iff i).1 u.0, (number_iff j).1 u.1),
-      )
+module _ (es : List Event) (bytes : List ℕ) (i j : ℕ) (r : accepted es ≡ read_log bytes) where
+  pub both_known : (v w : StampedEvent) → Waits es i (Some v) → Waits es j (Some w) → Answers bytes i j (related (compared v w))
+  both_known v w g h = relates (sym r) (has_number g) (has_number h) (compared_right g h)
 
-  stamped : (i : ℕ) (w : Awaited) → Waits es i w → IsNumber es i → IsStamped es i w.event
-  stamped i w h u = h.kept _ (at_numbered no_event es i u)
+  pub first_unknown : Waits es i None → Answers bytes i j (query_refused 16 0)
+  first_unknown g = no_number (sym r) (λ u. g u.0)
 
-  pub answers : (bytes : List ℕ) (i j : ℕ) (v w : Awaited) → Waits es i v → Waits es j w → accepted es ≡ read_log bytes
-      → Answers bytes i j (answer_at v w count)
-  answers bytes i j v w g h r =
-      rw (g.number, h.number)
-      (by_test (is_number i count && is_number j count)
-      (λ t. let u = (both_iff i j).0 t in rw t (relates (sym r) u.0 u.1 (compared_right (stamped i v g u.0) (stamped j w h u.1))))
-      (λ f. rw f (no_number (sym r) (λ u. both_ways ((both_iff i j).1 u) f))))
+  pub second_unknown : Waits es j None → Answers bytes i j (query_refused 16 0)
+  second_unknown h = no_number (sym r) (λ u. h u.1)

@@ -1,12 +1,13 @@
 -- "An order query takes a log and two event numbers"; it "now answers same for one event asked twice, before where the first comes before the second,
 -- after where the second comes before the first, else free" (document 02, Note 2).
-use Rattle.std.specs.Prelude.{ℕ, ◌<◌, ◌≤◌, ◌≡◌, List, length}
+use Rattle.std.specs.Prelude.{ℕ, ◌<◌, ◌≤◌, ◌≡◌, List, length, Result, Ok, Err}
 use Rattle.event.specs.declared.Event.{Event}
+use Rattle.event.specs.Refusals.{refusal_number}
 use Rattle.event_log.specs.Whole.{read_log, accepted, refused}
 use Rattle.relation.specs.declared.Relation.{Relation}
 use Rattle.relation.specs.Relation.{Relates}
-use Rattle.order_query.specs.declared.Order.{Order}
-use Rattle.order_query.specs.declared.Order.TheVariants as case
+use Rattle.order_query.specs.declared.QueryRefusal.{QueryRefusal}
+use Rattle.order_query.specs.declared.QueryRefusal.TheVariants.{Log, Query}
 
 -- the outcome: how the first event stands to the second, a refusal of the log, or one of the query; each refusal with its number and offset
 pub data OrderAnswer : Type 0 where
@@ -14,10 +15,10 @@ pub data OrderAnswer : Type 0 where
   log_refused query_refused : ℕ → ℕ → OrderAnswer
 
 -- which outcome each case of the program's answer stands for
-abbrev pub order_is : Order → OrderAnswer
-order_is (case.Related r) = related r
-order_is (case.LogRefused k o) = log_refused k o
-order_is (case.QueryRefused k o) = query_refused k o
+abbrev pub order_is : Result Relation QueryRefusal → OrderAnswer
+order_is (Ok r) = related r
+order_is (Err (Log r)) = log_refused (refusal_number r.reason) r.offset
+order_is (Err (Query r)) = query_refused (refusal_number r.reason) r.offset
 
 -- the number of an event of the list: "Events are numbered from 1"
 abbrev pub IsNumber : List Event → ℕ → Type 0
