@@ -8,8 +8,10 @@ use mathlib.Core.List.{List, [], ◌∷◌, ◌++◌, reverse, append_assoc, app
 use lib.Dec.{eqb}
 use lib.ListN.{length, get_or, replicate, length-append, length-reverse, get_or-append}
 use borrow.Author.Tests.{eqb-true, eq-eqb, ne_eqb}
+use Rattle.std.specs.Prelude.{Result, Ok, Err}
 use Rattle.event.specs.declared.Event.{Event}
 use Rattle.event.specs.declared.Slot.{Slot}
+use Rattle.event.specs.declared.refusal.Refused.{Refused}
 use Rattle.event.specs.Limits.{slots, events}
 use Rattle.event.specs.Slots.{slot_of, fits, no_slot, fitting, threads_of}
 use Rattle.event.proofs.Filled.{map_at}
@@ -20,7 +22,8 @@ use Rattle.rules.specs.Accepted.{refusal_after, taken_after, taken_under, Accept
 use Rattle.rules.specs.State as rules
 use Rattle.rules.proofs.StateLaws as rule_laws
 use Rattle.rules.proofs.AcceptedLists.{taken_iff}
-use Rattle.event_log.specs.Whole.{GoodPattern, no_slot_lem, one_slot, Whole, accepted, refused, blank, pattern_of, pattern_from, read_pattern}
+use Rattle.event_log.specs.declared.Pattern.{Pattern}
+use Rattle.event_log.specs.Whole.{GoodPattern, no_slot_lem, one_slot, Whole, accepted, refused, blank, pattern_of, read_pattern, slots_read, Renders, Passing, passed}
 use Rattle.event_log.proofs.PatternRoundTrip.{pattern_iff}
 use Rattle.command.specs.Bytes.{Bytes}
 use Rattle.event.specs.Range.{range_refusal_under}
@@ -39,9 +42,10 @@ use Rattle.table.proofs.History.{offer_kept}
 use Rattle.table.proofs.Start as table_start
 use Rattle.table.proofs.Verdict.{found_match, found_numbers}
 use Rattle.session.specs.declared.Session.{Session}
-use Rattle.session.specs.Model.{slots_used, or_lone, fresh_on, kept_of, table_after, kept_advanced, kept_after, advanced, handed, found_at, verdict_of}
+use Rattle.session.specs.Model.{slots_used, fresh_on, kept_of, table_after, kept_advanced, kept_after, advanced, handed, found_at, verdict_of}
 use Rattle.session.specs.Answers.{refusal, answer_is, found_is, verdict_is}
-use Rattle.session.specs.Meaning.{taken_by, Searched, searching, matched, Describes, VerdictOf}
+use Rattle.session.proofs.Answered.{number_answered}
+use Rattle.session.specs.Meaning.{taken_by, Searched, searching, matched, Describes, VerdictOf, OpenedOn}
 
 no_match_yet : (ss : List Slot) → 0 < length ss → ¬ HasMatch ss []
 no_match_yet [] l h = omega arith
@@ -193,13 +197,14 @@ module _ (ss : List Slot) (es : List Event) (s : Session) (h : Describes ss es s
 pub handed_described : (ss : List Slot) (es : List Event) (s : Session) → Describes ss es s → (e : Event)
     → (answer_is (handed s e).answer ≡ refusal (refusal_after (reverse es) e) 0) × Describes ss (taken_by es e) (handed s e).session
 unfolding handed advanced kept_after taken_under
-handed_described ss es s h e =
-    rw (refusal_is ss es s h e)
-    (by_test (eqb (refusal_after (reverse es) e) 0)
-    (λ q.
-    rw (q, reverse-cons e (reverse es), reverse-reverse es)
-    (ap (λ (k : ℕ). refusal k 0) (sym (eqb-true (refusal_after (reverse es) e) 0 q)), advanced_described ss es s h e (eqb-true (refusal_after (reverse es) e) 0 q)))
-    (λ q. rw (q, reverse-reverse es) (refl, h)))
+handed_described ss es s h e = (number_answered s.state s.taken e ∙ ap (λ (k : ℕ). refusal k 0) (refusal_is ss es s h e), described)
+  where
+    described : Describes ss (taken_by es e) (handed s e).session
+    described =
+        rw (refusal_is ss es s h e)
+        (by_test (eqb (refusal_after (reverse es) e) 0)
+        (λ q. rw (q, reverse-cons e (reverse es), reverse-reverse es) (advanced_described ss es s h e (eqb-true (refusal_after (reverse es) e) 0 q)))
+        (λ q. rw (q, reverse-reverse es) h))
 
 -- ---- the verdict
 
@@ -248,11 +253,27 @@ used_good bytes b = go (read_pattern bytes) refl
     go (accepted ss) q = ((pattern_iff bytes b ss).0 q).0
     go (refused k o) q = lone_good
 
-pub used_pattern : (bytes : List ℕ) → Bytes bytes → or_lone (pattern_from (read_pattern bytes)) ≡ pattern_of (slots_used (read_pattern bytes))
-used_pattern bytes b = go (read_pattern bytes) refl
-  where
-    go : (w : Whole Slot) → read_pattern bytes ≡ w → or_lone (pattern_from w) ≡ pattern_of (slots_used w)
-    go (accepted ss) q =
-        let l : 0 < length ss = ((pattern_iff bytes b ss).0 q).0.some in
-        rw (ne_eqb (length ss) 0 (λ z. let f : ⊥ = omega arith in f))
-    go (refused k o) q = refl
+-- what reading the pattern answers, and the pattern of the session then
+abbrev pub pattern_used : Result Pattern Refused → Pattern
+pattern_used (Ok p) = p
+pattern_used (Err r) = pattern_of (blank ∷ [])
+
+abbrev refuses : Passing → ℕ
+refuses (passed n) = 0
+refuses (Passing.refused k o) = 1
+
+used_is : (r : Result Pattern Refused) (w : Whole Slot) → Renders r w → pattern_used r ≡ pattern_of (slots_used w)
+used_is (Ok p) (accepted ss) h = h.pattern
+used_is (Ok p) (refused k o) h = absurd (let z : ◌≡◌ {A = ℕ} 0 1 = ap refuses h.answer in let f : ⊥ = omega arith in f)
+used_is (Err r) (accepted ss) h = absurd (let z : ◌≡◌ {A = ℕ} 1 0 = ap refuses h.answer in let f : ⊥ = omega arith in f)
+used_is (Err r) (refused k o) h = refl
+
+pub opened_on : (bytes : List ℕ) → Bytes bytes → (r : Result Pattern Refused) → Renders r (read_pattern bytes) → (s : Session) → s ≡ fresh_on (pattern_used r)
+    → OpenedOn bytes (record { answer = slots_read r; session = s })
+opened_on bytes b r h s q =
+    let session = q ∙ ap fresh_on (used_is r (read_pattern bytes) h) in
+    record {
+      answer = h.answer;
+      session = session;
+      described = rw session (fresh_described (slots_used (read_pattern bytes)) (used_good bytes b));
+    }

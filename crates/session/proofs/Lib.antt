@@ -1,3 +1,4 @@
+pub mod Answered
 pub mod Described
 pub mod Steps
 pub mod Demand

@@ -5,7 +5,6 @@ use mathlib.Core.Path.{◌≡◌, refl, sym, ap, ◌∙◌}
 use mathlib.Core.Logic.{◌↔◌}
 use mathlib.Core.List.{List, [], ◌∷◌, reverse}
 use Rattle.event.specs.declared.Event.{Event}
-use Rattle.event.specs.declared.Slot.{Slot}
 use Rattle.event.specs.Limits.{threads, former_threads}
 use Rattle.rules.specs.Accepted.{refusal_under, taken_under, EachNamesBelow, none_named, one_named}
 use Rattle.rules.proofs.Limits.{refusal_alike, taken_alike, all_taken_alike}

@@ -1,13 +1,15 @@
 -- What the code leaves in a session is what the model says.
-use Prim.Native.Nat.{ℕ, ◌+◌, ◌-◌, ◌<◌}
+use Prim.Native.Nat.{ℕ, ◌+◌, ◌<◌}
 use native.Mathlib.Omega.{arith}
 use mathlib.Core.Path.{◌≡◌, refl, sym, ◌∙◌}
-use mathlib.Core.Bool.{Bool, true, false, cond, ◌&&◌, and-eq-true_iff}
+use mathlib.Core.Bool.{Bool, true, false, cond}
+use Rattle.std.specs.Prelude.{Result}
 use mathlib.Core.List.{List, reverse}
 use lib.Dec.{eqb, leb}
-use borrow.Author.Tests.{eqb-true, eqb-false, eq-eqb, ne_eqb, leb-true, leb-false}
+use borrow.Author.Tests.{eqb-false, eq-eqb, ne_eqb, leb-true, leb-false}
 use Rattle.event.specs.declared.Event.{Event}
 use Rattle.event.specs.declared.Slot.{Slot}
+use Rattle.event.specs.declared.refusal.Refused.{Refused}
 use Rattle.event.specs.Limits.{events}
 use Rattle.event.specs.Slots.{slot_of, fitting, threads_of, NoneFitted}
 use Rattle.event.proofs.Tests.{by_test}
@@ -20,14 +22,11 @@ use Rattle.clock.specs.Clocks.{stamp_by, clocks_after}
 use Rattle.table.specs.Table.{offered, found_in}
 use Rattle.table.proofs.Verdict.{offered_still}
 use Rattle.session.specs.declared.Session.{Session}
-use Rattle.session.specs.declared.Answer.{Answer}
-use Rattle.session.specs.declared.Admission.{Admission}
 use Rattle.session.specs.declared.Handed.{Handed}
-use Rattle.session.specs.declared.Verdict.{Verdict}
-use Rattle.session.specs.Answers.{refusal, answer_is, verdict_is}
-use Rattle.session.specs.Model.{Kept, kept_of, session_on, table_after, kept_advanced, kept_after, answer_by, handed, verdict_of}
-use Rattle.session.specs.Meaning.{taken_by, Describes, VerdictOf}
-use Rattle.session.proofs.Described.{handed_described, verdict_described}
+use Rattle.session.specs.Answers.{refusal, answer_is}
+use Rattle.session.specs.Model.{Kept, kept_of, session_on, table_after, kept_advanced, kept_after, answer_by, handed}
+use Rattle.session.specs.Meaning.{taken_by, Describes}
+use Rattle.session.proofs.Described.{handed_described}
 
 -- an event that is taken is within the limit of events
 pub room : (state : List ℕ) (n : ℕ) (e : Event) → refusal_by state n e ≡ 0 → n < events
@@ -40,63 +39,55 @@ room state n e z =
 
 -- ---- what is kept
 
--- the event has been handed to the rules, and is counted where it is taken
-module _ (acting : List ℕ) (fit : List Bool) (size : ℕ) (k : Kept) (e : Event) (c : Admission) (state : List ℕ) (taken : ℕ) (n : c.number ≡ refusal_by k.state k.taken e)
-    (g : c.searched ≡ (eqb c.number 0 && eqb k.count 0)) (q : state ≡ state_after k.state k.taken e)
-    (t : taken ≡ cond (eqb c.number 0) (k.taken + 1) k.taken) where
+-- the event has been handed to the rules, which gave the number m, and is counted where it is taken
+module _ (acting : List ℕ) (fit : List Bool) (size : ℕ) (k : Kept) (e : Event) (m : ℕ) (state : List ℕ) (taken : ℕ) (n : m ≡ refusal_by k.state k.taken e)
+    (q : state ≡ state_after k.state k.taken e) (t : taken ≡ cond (eqb m 0) (k.taken + 1) k.taken) where
   -- rules and number of events alone
   abbrev unsearched : Kept
   unsearched = record { state = state; clocks = k.clocks; table = k.table; taken = taken; count = k.count }
 
-  -- refused, it leaves all as it was; with a match, only the rules go on
-  pub kept_unsearched : c.searched ≡ false → unsearched ≡ kept_after acting fit size k e
+  -- refused, it leaves all as it was
+  pub kept_refused : eqb m 0 ≡ false → unsearched ≡ kept_after acting fit size k e
   unfolding kept_after kept_advanced
-  kept_unsearched d = by_test (eqb c.number 0) matched refused
-    where
-      refused : eqb c.number 0 ≡ false → unsearched ≡ kept_after acting fit size k e
-      refused z =
-          let some = eqb-false (refusal_by k.state k.taken e) 0 (rw n at z) in
-          let same : state ≡ k.state = q ∙ sym (after_refused k.state k.taken e some) in
-          let as_many : taken ≡ k.taken = t ∙ rw z in
-          rw (ne_eqb (refusal_by k.state k.taken e) 0 some)
-          (λ i. record { state = same i; clocks = k.clocks; table = k.table; taken = as_many i; count = k.count })
+  kept_refused z =
+      let some = eqb-false (refusal_by k.state k.taken e) 0 (rw n at z) in
+      let same : state ≡ k.state = q ∙ sym (after_refused k.state k.taken e some) in
+      let as_many : taken ≡ k.taken = t ∙ rw z in
+      rw (ne_eqb (refusal_by k.state k.taken e) 0 some)
+      (λ i. record { state = same i; clocks = k.clocks; table = k.table; taken = as_many i; count = k.count })
 
-      matched : eqb c.number 0 ≡ true → unsearched ≡ kept_after acting fit size k e
-      matched z =
-          let found : eqb k.count 0 ≡ false = sym (rw z at g) ∙ d in
-          let one_more : taken ≡ k.taken + 1 = t ∙ rw z in
-          rw (rw n at z, found)
-          (λ i. record { state = q i; clocks = k.clocks; table = k.table; taken = one_more i; count = k.count })
+  module _ (z : m ≡ 0) where
+    one_more : taken ≡ k.taken + 1
+    one_more = t ∙ rw (eq-eqb m 0 z)
 
-  module _ (u : c.searched ≡ true) where
-    no_refusal : c.number ≡ 0
-    no_refusal = eqb-true _ _ ((and-eq-true_iff (eqb c.number 0) (eqb k.count 0)).0 (sym g ∙ u)).0
+    -- with a match, only the rules go on
+    pub kept_matched : eqb k.count 0 ≡ false → unsearched ≡ kept_after acting fit size k e
+    unfolding kept_after kept_advanced
+    kept_matched found =
+        rw (eq-eqb (refusal_by k.state k.taken e) 0 (sym n ∙ z), found)
+        (λ i. record { state = q i; clocks = k.clocks; table = k.table; taken = one_more i; count = k.count })
 
-    no_match : eqb k.count 0 ≡ true
-    no_match = ((and-eq-true_iff (eqb c.number 0) (eqb k.count 0)).0 (sym g ∙ u)).1
-
-    -- the event is offered to the table with its stamp
-    pub kept_searched : (stamp : Stamp) (clocks table : List ℕ) (count : ℕ) → stamp ≡ stamp_by k.clocks e → clocks ≡ clocks_after k.clocks e
+    -- without one, the event is offered to the table with its stamp
+    pub kept_searched : eqb k.count 0 ≡ true → (stamp : Stamp) (clocks table : List ℕ) (count : ℕ) → stamp ≡ stamp_by k.clocks e → clocks ≡ clocks_after k.clocks e
         → table ≡ offered k.table acting fit size e.thread stamp taken → count ≡ cond (found_in table size) taken 0
         → ◌≡◌ {A = Kept} (record { state = state; clocks = clocks; table = table; taken = taken; count = count }) (kept_after acting fit size k e)
     unfolding kept_after kept_advanced
-    kept_searched stamp clocks table count st cl tb co =
-        let one_more : taken ≡ k.taken + 1 = t ∙ rw (eq-eqb c.number 0 no_refusal) in
+    kept_searched none stamp clocks table count st cl tb co =
         let after : table ≡ table_after acting fit size k e = tb ∙ (λ i. offered k.table acting fit size e.thread (st i) (one_more i)) in
         let found : count ≡ cond (found_in (table_after acting fit size k e) size) (k.taken + 1) 0 = co ∙ (λ i. cond (found_in (after i) size) (one_more i) 0) in
-        rw (eq-eqb (refusal_by k.state k.taken e) 0 (sym n ∙ no_refusal), no_match)
+        rw (eq-eqb (refusal_by k.state k.taken e) 0 (sym n ∙ z), none)
         (λ i. record { state = q i; clocks = cl i; table = after i; taken = one_more i; count = found i })
 
     -- where it fits none of the slots the table stays, and its stamp goes on all the same
-    pub kept_skipped : (clocks : List ℕ) (count : ℕ) → clocks ≡ clocks_after k.clocks e → NoneFitted size fit → count ≡ cond (found_in k.table size) taken 0
+    pub kept_skipped : eqb k.count 0 ≡ true → (clocks : List ℕ) (count : ℕ) → clocks ≡ clocks_after k.clocks e → NoneFitted size fit → count ≡ cond (found_in k.table size) taken 0
         → ◌≡◌ {A = Kept} (record { state = state; clocks = clocks; table = k.table; taken = taken; count = count }) (kept_after acting fit size k e)
-    kept_skipped clocks count cl none co =
-        kept_searched (stamp_by k.clocks e) clocks k.table count refl cl
+    kept_skipped no_match clocks count cl none co =
+        kept_searched no_match (stamp_by k.clocks e) clocks k.table count refl cl
         (sym (offered_still k.table acting fit size e.thread (stamp_by k.clocks e) taken none)) co
 
 -- ---- the session
 
-pub handed_is : (s : Session) (e : Event) (a : Answer) (after : Kept) → a ≡ answer_by (refusal_by s.state s.taken e)
+pub handed_is : (s : Session) (e : Event) (a : Result Unit Refused) (after : Kept) → a ≡ answer_by (refusal_by s.state s.taken e)
     → after ≡ kept_after (threads_of s.pattern.slots) (fitting s.pattern.slots e) s.pattern.size (kept_of s) e
     → ◌≡◌ {A = Handed} (record { answer = a; session = session_on s.pattern after }) (handed s e)
 unfolding handed
@@ -116,7 +107,3 @@ pub after : (s : Session) (e : Event) (r : Handed) → r ≡ handed s e
     × ((ss : List Slot) (es : List Event) → Describes ss es s
     → (answer_is r.answer ≡ refusal (refusal_after (reverse es) e) 0) × Describes ss (taken_by es e) r.session)
 after s e r q = (q, λ ss es h. rw q (handed_described ss es s h e))
-
-pub verdict_after : (s : Session) (r : Verdict) → r ≡ verdict_of s
-    → (r ≡ verdict_of s) × ((ss : List Slot) (es : List Event) → Describes ss es s → VerdictOf ss es (verdict_is r))
-verdict_after s r q = (q, λ ss es h. rw q (verdict_described ss es s h))

@@ -1,10 +1,8 @@
 -- What each case of an answer stands for: the document's number and values.
-use Rattle.std.specs.Prelude.{ℕ, Bool, true, false, List, replicate}
+use Rattle.std.specs.Prelude.{ℕ, Bool, true, false, List, replicate, Option, Some, None, Result, Ok, Err}
+use Rattle.event.specs.declared.refusal.Refused as event
 use Rattle.event.specs.Limits.{slots}
-use Rattle.session.specs.declared.Answer.{Answer}
-use Rattle.session.specs.declared.Answer.TheVariants as answer
-use Rattle.session.specs.declared.Found.{Found}
-use Rattle.session.specs.declared.Found.TheVariants as found
+use Rattle.event.specs.Refusals.{refusal_number}
 use Rattle.session.specs.declared.Verdict.{Verdict}
 
 -- "A refusal returns its number and the offset of the first byte of the command concerned"; number 0: nothing is refused
@@ -16,9 +14,9 @@ abbrev pub refusal : ℕ → ℕ → Refusal
 refusal k o = record { number = k; offset = o }
 
 -- what became of an event
-abbrev pub answer_is : Answer → Refusal
-answer_is answer.Taken = refusal 0 0
-answer_is (answer.Refused k o) = refusal k o
+abbrev pub answer_is : Result Unit event.Refused → Refusal
+answer_is (Ok u) = refusal 0 0
+answer_is (Err r) = refusal (refusal_number r.reason) r.offset
 
 -- match or none, the count, one event number per slot
 pub record Ruling : Type 0 where
@@ -27,9 +25,9 @@ pub record Ruling : Type 0 where
   pub events : List ℕ
 
 -- "match with the smallest count of leading events that suffices and one event number per slot, or none with count 0"
-abbrev pub found_is : Found → List ℕ → Ruling
-found_is (found.Match n) events = record { matches = true; count = n; events = events }
-found_is found.None events = record { matches = false; count = 0; events = events }
+abbrev pub found_is : Option ℕ → List ℕ → Ruling
+found_is (Some n) events = record { matches = true; count = n; events = events }
+found_is None events = record { matches = false; count = 0; events = events }
 
 abbrev pub verdict_is : Verdict → Ruling
 verdict_is v = found_is v.found v.numbers

@@ -6,7 +6,7 @@ use Rattle.event.specs.Limits.{threads, slots}
 use Rattle.event.specs.Slots.{fits}
 use Rattle.rules.specs.Accepted.{Accepted, taken_after}
 use Rattle.rules.specs.State as rules
-use Rattle.event_log.specs.Whole.{GoodPattern, pattern_of, accepted, refused, read_log_under, read_pattern, read_pattern_under, outcome_of, pattern_answer_is}
+use Rattle.event_log.specs.Whole.{GoodPattern, pattern_of, accepted, refused, read_log_under, read_pattern, read_pattern_under, outcome_of, passing_is}
 use Rattle.clock.specs.Arrivals as clock
 use Rattle.table.specs.Keeps.{Keeps}
 use Rattle.dependence.specs.Order.{HasMatch, IsCount, Named, IsFirst}
@@ -45,7 +45,7 @@ pub record VerdictOf (ss : List Slot) (es : List Event) (r : Ruling) : Type 0 wh
 
 -- what an opening gives: the pattern's own answer, and a session on its slots, or on the lone slot, with no event taken
 pub record OpenedOn (bytes : List ℕ) (r : Opened) : Type 0 where
-  pub answer : pattern_answer_is r.answer ≡ outcome_of (read_pattern bytes)
+  pub answer : passing_is r.answer ≡ outcome_of (read_pattern bytes)
   pub session : r.session ≡ fresh_on (pattern_of (slots_used (read_pattern bytes)))
   pub described : Describes (slots_used (read_pattern bytes)) [] r.session
 

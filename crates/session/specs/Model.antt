@@ -1,7 +1,9 @@
 -- What opening, an event and the verdict make of a session, for every session.
-use Rattle.std.specs.Prelude.{ℕ, ◌+◌, Bool, cond, List, [], ◌∷◌, eqb, replicate}
+use Rattle.std.specs.Prelude.{ℕ, ◌+◌, Bool, cond, List, [], ◌∷◌, eqb, replicate, Option, Some, None, Result, Ok, Err}
 use Rattle.event.specs.declared.Event.{Event}
 use Rattle.event.specs.declared.Slot.{Slot}
+use Rattle.event.specs.declared.refusal.Refused.{Refused}
+use Rattle.event.specs.Refusals.{reason_of}
 use Rattle.event.specs.Slots.{fitting, threads_of}
 use Rattle.rules.specs.State.{state_size, refusal_by, state_after}
 use Rattle.event_log.specs.declared.Pattern.{Pattern}
@@ -10,11 +12,7 @@ use Rattle.clock.specs.Rows.{size as clock_size}
 use Rattle.clock.specs.Clocks.{stamp_by, clocks_after}
 use Rattle.table.specs.Table.{offered, fresh_table, found_in, numbers_in}
 use Rattle.session.specs.declared.Session.{Session}
-use Rattle.session.specs.declared.Answer.{Answer}
-use Rattle.session.specs.declared.Answer.TheVariants.{Taken, Refused}
 use Rattle.session.specs.declared.Handed.{Handed}
-use Rattle.session.specs.declared.Found.{Found}
-use Rattle.session.specs.declared.Found.TheVariants.{Match, None}
 use Rattle.session.specs.declared.Verdict.{Verdict}
 
 -- ---- opening
@@ -23,10 +21,6 @@ use Rattle.session.specs.declared.Verdict.{Verdict}
 abbrev pub slots_used : Whole Slot → List Slot
 slots_used (accepted ss) = ss
 slots_used (refused k o) = blank ∷ []
-
--- the pattern, or its first place alone where it has no slot: after a refusal that place holds the lone slot
-abbrev pub or_lone : Pattern → Pattern
-or_lone p = cond (eqb p.size 0) (record { slots = p.slots; size = 1 }) p
 
 -- what a session keeps of the events taken, beside its pattern
 pub record Kept : Type 0 where
@@ -77,8 +71,9 @@ unfoldable pub advanced : Session → Event → Session
 advanced s e =
     session_on s.pattern (kept_advanced (threads_of s.pattern.slots) (fitting s.pattern.slots e) s.pattern.size (kept_of s) e)
 
-abbrev pub answer_by : ℕ → Answer
-answer_by k = cond (eqb k 0) Taken (Refused k 0)
+-- the answer that gives a number: "its offset is 0 for a session"
+abbrev pub answer_by : ℕ → Result Unit Refused
+answer_by k = cond (eqb k 0) (Ok tt) (Err (record { reason = reason_of k; offset = 0 }))
 
 unfoldable pub handed : Session → Event → Handed
 handed s e =
@@ -94,8 +89,8 @@ handed_all s (e ∷ es) = handed_all (handed s e).session es
 
 -- ---- the verdict
 
-abbrev pub found_at : ℕ → Found
-found_at n = cond (eqb n 0) None (Match n)
+abbrev pub found_at : ℕ → Option ℕ
+found_at n = cond (eqb n 0) None (Some n)
 
 -- what a session has found: the count, and the numbers in the table
 abbrev pub verdict_of : Session → Verdict

@@ -1,5 +1,4 @@
 use Rattle.rules.proofs.StateLaws.{zeros}
-use borrow.Author.Rules.{rules}
 use Rattle.session.proofs.fresh.Goals as goal
 
 pub returns : goal.returns

@@ -1,23 +1,26 @@
-use Rattle.session.specs.Model.{Kept}
-use Rattle.session.proofs.Steps.{kept_unsearched, kept_searched}
 use borrow.Author.Rules.{rules}
-use borrow.Author.Tests.{not-true, not-false}
+use mathlib.Core.Bool.{false, true}
+use mathlib.Core.Path.{◌≡◌, sym, ◌∙◌}
+use lib.Dec.{eqb}
+use Rattle.event.specs.Refusals.{number_given}
+use Rattle.event.proofs.Refusals.{numbered}
+use Rattle.session.proofs.Steps.{kept_refused, kept_matched, kept_searched}
 use Rattle.session.proofs.hand.Goals as goal
 
-pub returns-then-none_fitted : goal.returns-then-none_fitted
-returns-then-none_fitted c = record { number = c.skip.ensures.number; after = c.skip.ensures.after _ _ (c.none_fitted.ensures.0 c.if-none_fitted.true) }
+pub returns-in_err-searched-clause-after : goal.returns-in_err-searched-clause-after
+returns-in_err-searched-clause-after c = let a = c.args in let r = c.admit_one.ensures in
+    let z : eqb (number_given c.admit_one.result) 0 ≡ false = search (rules, numbered) in
+    kept_refused a.acting a.fit a.size _ a.e _ _ _ r.number r.state r.taken z
 
-pub returns-then-not-admission : goal.returns-then-not-admission
-returns-then-not-admission c = let a = c.args in
-    let first : Kept = record { state = a.state.now; clocks = a.clocks.now; table = a.table.now; taken = a.taken.now; count = a.count.now } in
-    let r = c.admit_one-admission.ensures in
-    record { number = r.number; after = kept_unsearched _ _ _ first c.args.e c.admit_one-admission.result _ _ r.number r.searched r.state r.taken (not-true _ c.if-not-admission.true) }
+pub returns-then-not-searched-clause-after : goal.returns-then-not-searched-clause-after
+returns-then-not-searched-clause-after c = let a = c.args in let r = c.admit_one.ensures in
+    let z : number_given c.admit_one.result ≡ 0 = search rules in
+    let found : eqb a.count.now 0 ≡ false = sym (r.searched _ c.in_ok-searched.was) ∙ c.if-not-searched.true in
+    kept_matched a.acting a.fit a.size _ a.e _ _ _ r.number r.state r.taken z found
 
-pub returns : goal.returns
-returns c = let a = c.args in
-    let first : Kept = record { state = a.state.now; clocks = a.clocks.now; table = a.table.now; taken = a.taken.now; count = a.count.now } in
-    let d = c.admit_one-admission in
-    let r = d.ensures in
-    let u = not-false _ c.if-not-admission.false in
+pub returns-clause-after : goal.returns-clause-after
+returns-clause-after c = let a = c.args in let r = c.admit_one.ensures in
+    let z : number_given c.admit_one.result ≡ 0 = search rules in
+    let no_match : eqb a.count.now 0 ≡ true = sym (r.searched _ c.in_ok-searched.was) ∙ c.if-not-searched.false in
     let clocked = c.advance-stamp.ensures in
-    record { number = r.number; after = kept_searched _ _ _ first c.args.e d.result _ _ r.number r.searched r.state r.taken u _ _ _ _ clocked.stamp clocked.after c.offer.ensures.exact c.count_at.ensures }
+    kept_searched a.acting a.fit a.size _ a.e _ _ _ r.number r.state r.taken z no_match _ _ _ _ clocked.stamp clocked.after c.offer.ensures.exact c.count_at.ensures

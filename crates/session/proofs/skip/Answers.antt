@@ -1,19 +1,25 @@
 use borrow.Author.Rules.{rules}
-use borrow.Author.Tests.{not-true, not-false}
-use Rattle.session.specs.Model.{Kept}
-use Rattle.session.proofs.Steps.{kept_unsearched, kept_skipped}
+use mathlib.Core.Bool.{false, true}
+use mathlib.Core.Path.{◌≡◌, sym, ◌∙◌}
+use lib.Dec.{eqb}
+use Rattle.event.specs.Refusals.{number_given}
+use Rattle.event.proofs.Refusals.{numbered}
+use Rattle.session.proofs.Steps.{kept_refused, kept_matched, kept_skipped}
 use Rattle.session.proofs.skip.Goals as goal
 
-pub returns-then-not-admission : goal.returns-then-not-admission
-returns-then-not-admission c = let a = c.args in
-    let first : Kept = record { state = a.state.now; clocks = a.clocks.now; table = a.table.now; taken = a.taken.now; count = a.count.now } in
-    let r = c.admit_one-admission.ensures in
-    record { number = r.number; after = λ acting fit none. kept_unsearched acting fit c.args.size first c.args.e c.admit_one-admission.result _ _ r.number r.searched r.state r.taken (not-true _ c.if-not-admission.true) }
+pub returns-in_err-searched-clause-after : goal.returns-in_err-searched-clause-after
+returns-in_err-searched-clause-after c = let a = c.args in let r = c.admit_one.ensures in
+    let z : eqb (number_given c.admit_one.result) 0 ≡ false = search (rules, numbered) in
+    λ acting fit none. kept_refused acting fit a.size _ a.e _ _ _ r.number r.state r.taken z
 
-pub returns : goal.returns
-returns c = let a = c.args in
-    let first : Kept = record { state = a.state.now; clocks = a.clocks.now; table = a.table.now; taken = a.taken.now; count = a.count.now } in
-    let d = c.admit_one-admission in
-    let r = d.ensures in
-    let u = not-false _ c.if-not-admission.false in
-    record { number = r.number; after = λ acting fit none. kept_skipped acting fit c.args.size first c.args.e d.result _ _ r.number r.searched r.state r.taken u _ _ c.advance.ensures.after none c.count_at.ensures }
+pub returns-then-not-searched-clause-after : goal.returns-then-not-searched-clause-after
+returns-then-not-searched-clause-after c = let a = c.args in let r = c.admit_one.ensures in
+    let z : number_given c.admit_one.result ≡ 0 = search rules in
+    let found : eqb a.count.now 0 ≡ false = sym (r.searched _ c.in_ok-searched.was) ∙ c.if-not-searched.true in
+    λ acting fit none. kept_matched acting fit a.size _ a.e _ _ _ r.number r.state r.taken z found
+
+pub returns-clause-after : goal.returns-clause-after
+returns-clause-after c = let a = c.args in let r = c.admit_one.ensures in
+    let z : number_given c.admit_one.result ≡ 0 = search rules in
+    let no_match : eqb a.count.now 0 ≡ true = sym (r.searched _ c.in_ok-searched.was) ∙ c.if-not-searched.false in
+    λ acting fit none. kept_skipped acting fit a.size _ a.e _ _ _ r.number r.state r.taken z no_match _ _ c.advance.ensures.after none c.count_at.ensures

@@ -1,9 +1,5 @@
-use Rattle.session.specs.declared.Verdict.{Verdict}
-use Rattle.session.proofs.Steps.{verdict_after}
+use Rattle.session.proofs.Described.{verdict_described}
 use Rattle.session.proofs.Session.verdict.Goals as goal
 
-pub returns : goal.returns
-returns c =
-    let r : Verdict = record { found = c.found_at-found.result; numbers = c.numbers-numbers.result } in
-    let p = verdict_after c.args.self r (λ i. record { found = c.found_at-found.ensures i; numbers = c.numbers-numbers.ensures.exact i }) in
-    record { exact = p.0; history = p.1 }
+pub returns-clause-history : goal.returns-clause-history
+returns-clause-history c = λ ss es h. rw (c.found_at-found.ensures, c.numbers-numbers.ensures.exact) (verdict_described ss es c.args.self h)
