@@ -1,7 +1,7 @@
 -- A search keeps the choice slot by slot of the events read so far, and what is left of the log gives the whole.
 use Prim.Native.Nat.{ℕ, ◌+◌, ◌≤◌, ◌<◌}
 use native.Mathlib.Omega.{arith}
-use mathlib.Core.Path.{◌≡◌, sym, ap, subst, ◌∙◌}
+use mathlib.Core.Path.{◌≡◌, sym, ap, ◌∙◌}
 use mathlib.Core.Bool.{true, false, cond}
 use mathlib.Core.List.{List, [], ◌∷◌, ◌++◌, reverse, reverse-cons}
 use lib.ListN.{length, length-reverse}
@@ -12,11 +12,11 @@ use Rattle.event.specs.Slots.{slot_of}
 use Rattle.rules.specs.State.{StateOf}
 use Rattle.event.specs.Keys.{slot_key}
 use Rattle.command.specs.Reading.{Reading, command, closed, refused as refused_at, read_event}
-use Rattle.event_log.specs.Whole.{outcome_of}
-use Rattle.event_log.specs.declared.LogRead.TheVariants.{Accepted, LogRefused}
+use Rattle.std.specs.Prelude.{Ok, Err}
+use Rattle.event.specs.declared.refusal.Refused.{Refused}
+use Rattle.event.specs.Refusals.{refusal_number}
 use Rattle.event_log.specs.Leading.{Leading}
 use Rattle.event_log.specs.Leading as leading
-use Rattle.event_log.proofs.Rows.{one_list, refused_not_accepted}
 use Rattle.event_log.proofs.Steps.{History}
 use Rattle.event_log.proofs.LogWalk as walk
 use Rattle.event_log.proofs.Leading.{in_limits, leads_on}
@@ -30,7 +30,7 @@ use Rattle.passes.specs.Passes.{Leads, SlotsOf, LastsOf}
 use Rattle.first.specs.Holding.{Settled, NextIs, Following, Newest}
 use Rattle.first.proofs.Filling.{none_found_lem}
 use Rattle.first.proofs.Arriving.{newest, goes_by, hits}
-use Rattle.slot_search.specs.Searching.{SearchedIn}
+use Rattle.slot_search.specs.Searching.{SearchedIn, log_refused, searched}
 
 pub record Running (bytes : List ℕ) (slots : List Slot) (keys : List ℕ) (size : ℕ) (state clocks last : List ℕ) (s : Search) (taken at : ℕ) : Type 0 where
   pub past : List Event
@@ -57,25 +57,11 @@ started {bytes} {state} so l h k z =
 -- one step of the log
 module _ {bytes state after : List ℕ} {slots : List Slot} {keys : List ℕ} {size : ℕ} {clocks last : List ℕ} {s : Search} {taken at : ℕ} {outcome : Reading Event}
     (r : Running bytes slots keys size state clocks last s taken at) (h : History bytes at state taken outcome after) where
-  pub ended : outcome ≡ closed → SearchedIn slots size bytes (record { read = Accepted taken; search = s })
-  ended q =
-      let e = walk.at_end r.going h q in
-      record {
-        answer = walk.counted r.going h q;
-        within = r.within;
-        settled = λ es z. subst (λ (xs : List Event). Settled xs slots size s) (one_list (e ∙ z)) r.settled;
-        without = λ k o z. refused_not_accepted (sym (e ∙ z));
-      }
+  pub ended : outcome ≡ closed → SearchedIn slots size bytes (Ok (record { events = taken; search = s }))
+  ended q = searched (sym (walk.at_end r.going h q)) (r.going.count ∙ sym (length-reverse r.past)) r.within r.settled
 
-  pub broke : (k o : ℕ) → outcome ≡ refused_at k o → SearchedIn slots size bytes (record { read = LogRefused k o; search = none_found keys })
-  broke k o q =
-      let e = walk.broken r.going h k o q in
-      record {
-        answer = ap outcome_of e;
-        within = omega arith;
-        settled = λ es z. refused_not_accepted (e ∙ z);
-        without = λ k' o' z. ap none_found r.so.keyed;
-      }
+  pub broke : (m : Refused) → outcome ≡ refused_at (refusal_number m.reason) m.offset → SearchedIn slots size bytes (Err m)
+  broke m q = log_refused (sym (walk.broken r.going h _ _ q))
 
   -- an event: the clocks take it where they run
   module _ (e : Event) (next : ℕ) (q : outcome ≡ command e next) where

@@ -2,24 +2,24 @@
 #![tactic(auto)]
 
 ghost use Rattle.std.specs.Prelude.{◌≡◌};
-ghost use Rattle.first.specs.Search.{none_found, fills_slot};
-ghost use Rattle.event_log.specs.declared.LogRead.TheVariants as LogRead;
+ghost use Rattle.first.specs.Search.{fills_slot};
 ghost use Rattle.slot_search.specs.Patterns.{Usable};
 ghost use Rattle.slot_search.specs.Searching.{SearchedIn};
 
+use event::refusal::Refused;
 use event::{Event, Slot};
-use event_log::{LogRead, Pattern, Stepped};
+use event_log::Pattern;
 use first::Search;
 
-// What reading the log gives, and the search at its end; where the log is refused, a search that has found nothing.
+// How many events the log holds, and the search at its end.
 #[derive(Clone, Copy)]
 pub struct LogSearch {
-    pub read: LogRead,
+    pub events: usize,
     pub search: Search,
 }
 
 // One pass over the log: each event goes by the rules, and the first that fits the slot looked for fills it.
-pub fn search(p: Pattern, log: &[u8]) -> LogSearch
+pub fn search(p: Pattern, log: &[u8]) -> Result<LogSearch, Refused>
     requires { Usable p }
     ensures { SearchedIn p.slots p.size log.now result }
 {
@@ -32,17 +32,7 @@ pub fn search(p: Pattern, log: &[u8]) -> LogSearch
     let mut s = first::none_found(keys);
     let mut taken: usize = 0;
     let mut at: usize = 0;
-    loop {
-        let found = event_log::step(log, at, &mut state, taken);
-        let Stepped::Event { event, next } = found else {
-            let Stepped::LogRefused { number, offset } = found else {
-                return LogSearch {
-                    read: LogRead::Accepted { events: taken },
-                    search: s,
-                };
-            };
-            return log_refused(keys, number, offset);
-        };
+    while let Some((event, next)) = event_log::step(log, at, &mut state, taken)? {
         taken += 1;
         let key = command::key_at(log, at);
         at = next;
@@ -66,24 +56,15 @@ pub fn search(p: Pattern, log: &[u8]) -> LogSearch
             stamp,
         );
     }
+    Ok(LogSearch {
+        events: taken,
+        search: s,
+    })
 }
 
 // Whether the event fits slot k, counted from 0; there is none from the limit on.
 fn fills(slots: [Slot; event::SLOTS], k: usize, e: Event) -> bool
     ensures { result ≡ fills_slot slots k e }
 {
-    if k >= event::SLOTS {
-        return false;
-    }
-    let slot = slots[k];
-    event::fit(slot, e)
-}
-
-fn log_refused(keys: [u16; event::SLOTS], number: u8, offset: usize) -> LogSearch
-    ensures { result ≡ record { read = LogRead.LogRefused number offset; search = none_found keys } }
-{
-    LogSearch {
-        read: LogRead::LogRefused { number, offset },
-        search: first::none_found(keys),
-    }
+    slots.get(k).is_some_and(|slot| event::fit(*slot, e))
 }
