@@ -5,8 +5,6 @@ ghost use Rattle.std.specs.Prelude.{◌≡◌};
 ghost use Rattle.load_log.specs.Load.{loading, loaded};
 ghost use Rattle.bilguzor_load.specs.LoadNumbers.{load_numbers};
 
-use writer::Written;
-
 // What became of a load: number 0 where it is written, and how many bytes it has.
 #[repr(C)]
 #[derive(Clone, Copy)]
@@ -22,16 +20,15 @@ pub extern "C" fn bilguzor_load(seed: u32, count: usize, buffer: &mut [u8]) -> L
     ensures answer { result ≡ load_numbers (loading seed count buffer.old) }
     ensures after { buffer.new ≡ loaded seed count buffer.old }
 {
-    let written = load_log::write(seed, count, buffer);
-    match written {
-        Written::Next { at } => Load {
+    match load_log::write(seed, count, buffer) {
+        Ok(size) => Load {
             number: 0,
             offset: 0,
-            length: at,
+            length: size,
         },
-        Written::Refused { number, offset } => Load {
-            number,
-            offset,
+        Err(refused) => Load {
+            number: refused.reason.number(),
+            offset: refused.offset,
             length: 0,
         },
     }

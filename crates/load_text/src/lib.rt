@@ -2,69 +2,44 @@
 #![tactic(auto)]
 
 ghost use Rattle.std.specs.Prelude.{◌≡◌, List, ℕ};
-ghost use Rattle.std.proofs.Math.Option.{some};
-ghost use Rattle.arguments.specs.Numerals.{pair_is};
-ghost use Rattle.writer.specs.Writing.{written_is};
 ghost use Rattle.page.specs.Page.{empty_page, onto, PutIn};
 ghost use Rattle.load_text.specs.LoadText.{seed_and_count, making, space_after, made_is, load_line};
 
-use arguments::Pair;
+use event::refusal::Refused;
 use page::Page;
-use writer::Written;
 
-// The highest seed.
-const HIGHEST_SEED: u64 = 4294967295;
-
-// What was made: a log at the start of its space, so many bytes long; or it was refused; or the arguments are no seed and count.
+// Why no log was made: the arguments are no seed and count, or the load is refused.
 #[derive(Clone, Copy)]
-pub enum Made {
-    Log { size: usize },
-    Refused { number: u8, offset: usize },
+pub enum LoadError {
     Usage,
+    Refused(Refused),
 }
 
-// Makes the load that the program's arguments ask for, at the start of a lent space.
-pub fn make_load(pair: Pair, space: &mut [u8]) -> Made
-    ensures answer { made_is result ≡ making (seed_and_count (pair_is pair)) space.old }
-    ensures after { space.new ≡ space_after (seed_and_count (pair_is pair)) space.old }
+// Makes the load that the program's arguments ask for, at the start of a lent space: how many bytes it has.
+pub fn make_load(pair: Option<(u64, u64)>, space: &mut [u8]) -> Result<usize, LoadError>
+    ensures answer { made_is result ≡ making (seed_and_count pair) space.old }
+    ensures after { space.new ≡ space_after (seed_and_count pair) space.old }
 {
-    let Pair::Numbers { first, second } = pair else {
-        return Made::Usage;
-    };
-    if HIGHEST_SEED < first {
-        return Made::Usage;
-    }
-    let written = load_log::write(first as u32, second as usize, space);
-    made_of(written)
-}
-
-fn made_of(written: Written) -> Made
-    ensures { made_is result ≡ some (written_is written) }
-{
-    match written {
-        Written::Next { at } => Made::Log { size: at },
-        Written::Refused { number, offset } => Made::Refused { number, offset },
-    }
+    let (first, second) = pair.ok_or(LoadError::Usage)?;
+    let seed = u32::try_from(first).map_err(|_| LoadError::Usage)?;
+    load_log::write(seed, second as usize, space).map_err(LoadError::Refused)
 }
 
 // Writes what is printed for it at the start of a lent buffer.
-pub fn write(made: Made, buffer: &mut [u8]) -> Written
+pub fn write(made: Result<usize, LoadError>, buffer: &mut [u8]) -> Result<usize, Refused>
     ensures { PutIn (λ (text : List ℕ). text ≡ load_line (made_is made)) buffer.old buffer.new result }
 {
-    let page = line(made);
-    page.put(buffer)
+    line(made).put(buffer)
 }
 
-fn line(made: Made) -> Page
+#[tactic(auto, using(page::proofs::Onto::onto_append))]
+fn line(made: Result<usize, LoadError>) -> Page
     ensures { result ≡ onto empty_page (load_line (made_is made)) }
 {
     let p = page::empty();
     match made {
-        Made::Log { size } => {
-            let q = p.number(size);
-            q.text(b" bytes\n")
-        }
-        Made::Refused { number, offset } => p.refusal(number, offset),
-        Made::Usage => p.text(b"usage: load SEED COUNT\n"),
+        Ok(size) => p.number(size).text(b" bytes\n"),
+        Err(LoadError::Refused(r)) => p.refusal(r),
+        Err(LoadError::Usage) => p.text(b"usage: load SEED COUNT\n"),
     }
 }
