@@ -11,11 +11,11 @@ use mathlib.Core.List.{List, [], ◌∷◌, ◌++◌, append-nil}
 use lib.Dec.{eqb}
 use lib.ListN.{length, length-append}
 use borrow.Author.Tests.{eq-eqb}
+use Rattle.std.specs.Prelude.{Option, Some, None}
 use Rattle.event.specs.declared.Event.{Event}
 use Rattle.event.specs.declared.Slot.{Slot}
 use Rattle.event.specs.Slots.{fits, no_event}
 use Rattle.event.proofs.SlotNumbers.{fits_alike}
-use Rattle.event.proofs.Tests.{by_test}
 use Rattle.trace.specs.Before.{Numbered}
 use Rattle.trace.specs.Tuples.{one_more, thread_at, place}
 use Rattle.trace.proofs.Lists.{both_ways}
@@ -64,11 +64,11 @@ module _ (es : List Event) (slot : Slot) (e : Event) where
       ∙ ap (seen_of longer) (sym (fits_alike slot e f).thread)
 
   -- it fits, and is the last that does
-  is_last : fits slot e ≡ true → LastFit longer slot (suc (length es)) (seen_of longer slot.thread)
+  is_last : fits slot e ≡ true → LastFit longer slot (Some (record { number = suc (length es); place = seen_of longer slot.thread }))
   is_last f = rw (sym (place_is f)) (last newest f (λ m a n g. let u = numbered_among n in let w = one_longer in omega arith))
 
   -- it does not, and nothing changes
-  stays_last : {l p : ℕ} → fits slot e ≡ false → LastFit es slot l p → LastFit longer slot l p
+  stays_last : {kept : Option PlacedEvent} → fits slot e ≡ false → LastFit es slot kept → LastFit longer slot kept
   stays_last f (never d) = never (λ i a n. none i a (old_or_new n))
     where
       none : (i : ℕ) (a : Event) → Numbered es i a ⊎ (a ≡ e) → fits slot a ≡ false
@@ -84,30 +84,27 @@ module _ (es : List Event) (slot : Slot) (e : Event) where
 -- ---- the pass
 
 -- i events gone past, so many of them of the slot's thread, and the last of them that fits
-pub record Passed (bytes : List ℕ) (es : List Event) (slot : Slot) (kept : PlacedEvent) (place at i : ℕ) : Type 0 where
+pub record Passed (bytes : List ℕ) (es : List Event) (slot : Slot) (kept : Option PlacedEvent) (place at i : ℕ) : Type 0 where
   pub gone : List Event
   pub passed : Midway bytes es gone at
   pub count : length gone ≡ i
   pub counted : place ≡ seen_of gone slot.thread
-  pub fit : LastFit gone slot kept.number kept.place
+  pub fit : LastFit gone slot kept
 
 module _ {bytes : List ℕ} {es : List Event} {n : ℕ} (ls : Leads bytes es n) {slot : Slot} where
-  pub begun : Passed bytes es slot (record { number = 0; place = 0 }) 0 0 0
+  pub begun : Passed bytes es slot None 0 0 0
   begun = record { gone = []; passed = at_start bytes ls.read; count = refl; counted = refl; fit = never none }
     where
       none : (i : ℕ) (e : Event) → Numbered [] i e → fits slot e ≡ false
       none i e m = let u = numbered_among m in absurd (let z : ⊥ = omega arith in z)
 
-  module _ {kept : PlacedEvent} {place at i : ℕ} (s : Passed bytes es slot kept place at i) where
+  module _ {kept : Option PlacedEvent} {place at i : ℕ} (s : Passed bytes es slot kept place at i) where
     pub ahead : i < n → length s.gone < length es
     ahead l = let c = ls.count in let g = s.count in omega arith
 
     module _ (l : i < n) (e : Event) (next : ℕ) (q : command e next ≡ read_event bytes at) where
       abbrev counted_up : ℕ
       counted_up = cond (eqb e.thread slot.thread) (up place) place
-
-      abbrev kept_then : PlacedEvent
-      kept_then = cond (fits slot e) (record { number = i + 1; place = counted_up }) kept
 
       up_is : counted_up ≡ seen_of (s.gone ++ (e ∷ [])) slot.thread
       up_is =
@@ -116,22 +113,26 @@ module _ {bytes : List ℕ} {es : List Event} {n : ℕ} (ls : Leads bytes es n) 
           let g = s.count in
           counts_up s.gone e slot.thread place s.counted (omega arith)
 
-      fit_then : LastFit (s.gone ++ (e ∷ [])) slot kept_then.number kept_then.place
-      fit_then = by_test (fits slot e) (λ f. rw (f, up_is, sym s.count, add-one) (is_last s.gone slot e f)) (λ f. rw f (stays_last s.gone slot e f s.fit))
-
-      pub passes_it : Passed bytes es slot kept_then counted_up next (i + 1)
-      passes_it =
+      with_last : (now : Option PlacedEvent) → LastFit (s.gone ++ (e ∷ [])) slot now → Passed bytes es slot now counted_up next (i + 1)
+      with_last now f =
           record {
             gone = s.gone ++ (e ∷ []);
             passed = past_it s.passed (ahead l) e next q;
             count = length-append s.gone (e ∷ []) ∙ ap (λ (k : ℕ). k + 1) s.count;
             counted = up_is;
-            fit = fit_then;
+            fit = f;
           }
 
+      -- it fits, or it does not
+      pub passes_last : fits slot e ≡ true → Passed bytes es slot (Some (record { number = i + 1; place = counted_up })) counted_up next (i + 1)
+      passes_last f = with_last _ (rw (up_is, sym s.count, add-one) (is_last s.gone slot e f))
+
+      pub passes_by : fits slot e ≡ false → Passed bytes es slot kept counted_up next (i + 1)
+      passes_by f = with_last kept (stays_last s.gone slot e f s.fit)
+
     -- all events have passed
-    pub all_passed : n ≤ i → LastFit es slot kept.number kept.place
-    all_passed l = subst (λ (xs : List Event). LastFit xs slot kept.number kept.place) (whole s.passed.rest s.passed.whole) s.fit
+    pub all_passed : n ≤ i → LastFit es slot kept
+    all_passed l = subst (λ (xs : List Event). LastFit xs slot kept) (whole s.passed.rest s.passed.whole) s.fit
       where
         whole : (rest : List Event) → es ≡ s.gone ++ rest → s.gone ≡ es
         whole [] q = sym (q ∙ append-nil s.gone)

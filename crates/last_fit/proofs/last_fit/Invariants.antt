@@ -1,13 +1,8 @@
 use Prim.Native.Nat.{◌-◌, ◌≤◌}
-use native.Mathlib.Omega.{arith}
-use mathlib.Core.Path.{sym, ap, ◌∙◌}
 use mathlib.Core.List.{List}
 use Rattle.event.specs.declared.Event.{Event}
-use Rattle.command.specs.Reading.{event_read_is}
-use Rattle.event_log.proofs.Leading.{not_absent}
 use Rattle.passes.specs.Passes.{Leads}
-use Rattle.last_fit.proofs.Fitting.{Passed, begun, ahead, passes_it, all_passed}
-use borrow.Author.Rules.{rules}
+use Rattle.last_fit.proofs.Fitting.{Passed}
 use Rattle.last_fit.proofs.last_fit.Given as goal
 
 abbrev pub invariant-loop-i : goal.invariant-loop-i
