@@ -1,6 +1,5 @@
 -- What the program `order` prints: "`same`, `before`, `after` or `free`; or the refusal, 16 among them"; or its usage.
-use Rattle.std.specs.Prelude.{ℕ, ◌<◌, ◌≤◌, List, length}
-use Rattle.std.proofs.Math.Option.{Option, some, none}
+use Rattle.std.specs.Prelude.{ℕ, ◌<◌, ◌≤◌, List, length, Option, Some, None}
 use Rattle.page.specs.Text.{ascii}
 use Rattle.page.specs.Lines.{longest, refusal_line, too_long_line}
 use Rattle.relation.specs.declared.Relation.{Relation}
@@ -27,6 +26,6 @@ usage_line = ascii "usage: order FIRST SECOND\n"
 -- a log, the two numbers that the arguments are, or none, and the text: "usage goes before `too long` and every refusal"; "if one that the program
 -- reads is longer, it prints `too long` alone"
 pub data OrderText (log : List ℕ) : Option (ℕ × ℕ) → List ℕ → Type 0 where
-  usage : OrderText log none usage_line
-  long : {i j : ℕ} → longest < length log → OrderText log (some (i, j)) too_long_line
-  answered : {i j : ℕ} {a : OrderAnswer} → length log ≤ longest → Answers log i j a → OrderText log (some (i, j)) (answer_line a)
+  usage : OrderText log None usage_line
+  long : {i j : ℕ} → longest < length log → OrderText log (Some (i, j)) too_long_line
+  answered : {i j : ℕ} {a : OrderAnswer} → length log ≤ longest → Answers log i j a → OrderText log (Some (i, j)) (answer_line a)

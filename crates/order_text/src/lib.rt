@@ -2,53 +2,44 @@
 #![tactic(auto)]
 
 ghost use Rattle.std.specs.Prelude.{◌≡◌};
-ghost use Rattle.std.proofs.Math.Option.{some};
-ghost use Rattle.arguments.specs.Numerals.{pair_is};
 ghost use Rattle.page.specs.Page.{empty_page, onto, Adds, PutIn};
 ghost use Rattle.order_query.specs.Query.{order_is};
 ghost use Rattle.order_text.specs.OrderText.{relation_line, answer_line, OrderText};
 
-use arguments::Pair;
-use order_query::Order;
+use event::refusal::Refused;
+use order_query::QueryRefusal;
 use page::Page;
 use relation::Relation;
-use writer::Written;
 
 // Writes what is printed for a log and the program's arguments, which are two event numbers or not that, at the start of a lent buffer.
-pub fn write(log: &[u8], pair: Pair, buffer: &mut [u8]) -> Written
-    ensures { PutIn (OrderText log.now (pair_is pair)) buffer.old buffer.new result }
+#[tactic(auto, using(page::proofs::PutIn::put_in))]
+pub fn write(log: &[u8], pair: Option<(u64, u64)>, buffer: &mut [u8]) -> Result<usize, Refused>
+    ensures { PutIn (OrderText log.now pair) buffer.old buffer.new result }
 {
-    let page = line(log, pair);
-    page.put(buffer)
+    line(log, pair).put(buffer)
 }
 
-fn line(log: &[u8], pair: Pair) -> Page
-    ensures { Adds (OrderText log.now (pair_is pair)) empty_page result }
+#[tactic(auto, using(crate::proofs::Lines::added_long, crate::proofs::Lines::added_answer))]
+fn line(log: &[u8], pair: Option<(u64, u64)>) -> Page
+    ensures { Adds (OrderText log.now pair) empty_page result }
 {
     let p = page::empty();
-    match pair {
-        Pair::Numbers { first, second } => asked_line(p, log, first as usize, second as usize),
-        Pair::NoNumbers => p.text(b"usage: order FIRST SECOND\n"),
-    }
-}
-
-fn asked_line(p: Page, log: &[u8], first: usize, second: usize) -> Page
-    ensures { Adds (OrderText log.now (some (first, second))) p result }
-{
+    let Some((first, second)) = pair else {
+        return p.text(b"usage: order FIRST SECOND\n");
+    };
     if page::LONGEST < log.len() {
         return p.too_long();
     }
-    let answer = order_query::query(log, first, second);
+    let answer = order_query::query(log, first as usize, second as usize);
     answer_line(p, answer)
 }
 
-fn answer_line(p: Page, answer: Order) -> Page
+fn answer_line(p: Page, answer: Result<Relation, QueryRefusal>) -> Page
     ensures { result ≡ onto p (answer_line (order_is answer)) }
 {
     match answer {
-        Order::Related { relation } => relation_line(p, relation),
-        Order::LogRefused { number, offset } => p.refusal(number, offset),
-        Order::QueryRefused { number, offset } => p.refusal(number, offset),
+        Ok(relation) => relation_line(p, relation),
+        Err(QueryRefusal::Log(r) | QueryRefusal::Query(r)) => p.refusal(r),
     }
 }
 

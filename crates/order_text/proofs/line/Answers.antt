@@ -1,14 +1,6 @@
-use mathlib.Core.Path.{sym}
-use native.Mathlib.Omega.{arith}
-use borrow.Author.Rules.{rules}
-use Rattle.order_text.specs.OrderText.{usage_line, usage}
+use Rattle.std.proofs.Common.{rules}
+use Rattle.order_text.proofs.Lines.{added_usage}
 use Rattle.order_text.proofs.line.Goals as goal
 
-pub returns-in-Numbers : goal.returns-in-Numbers
-returns-in-Numbers c = let t = c.asked_line.ensures in
-    rw c.in-Numbers.is
-    (record { text = t.text; kind = t.kind; short = t.short; page = rw (sym c.empty-p.ensures) t.page })
-
-pub returns-in-NoNumbers : goal.returns-in-NoNumbers
-returns-in-NoNumbers c = rw c.in-NoNumbers.is
-    (record { text = usage_line; kind = usage; short = omega arith; page = rw (c.text.ensures, c.empty-p.ensures) })
+pub returns-in_default : goal.returns-in_default
+returns-in_default c = added_usage _ _ _ _ (search rules) (rw c.empty-p.ensures at c.text.ensures)
