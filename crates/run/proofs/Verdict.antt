@@ -3,7 +3,7 @@ use Prim.Native.Nat.{ℕ, zero, suc, ◌≤◌, ◌<◌, max}
 use native.Mathlib.Decide.{dec_lt}
 use native.Mathlib.Omega.{arith}
 use mathlib.Core.Path.{◌≡◌, refl, sym, ap, subst, ◌∙◌}
-use mathlib.Core.Bool.{true, false, false≢true}
+use mathlib.Core.Bool.{Bool, true, false, cond, false≢true}
 use mathlib.Core.List.{List, [], ◌∷◌}
 use lib.Dec.{eqb}
 use lib.ListN.{length, get_or, take, drop, replicate, drop_of_length-le}
@@ -15,11 +15,10 @@ use Rattle.event.specs.declared.Slot.{Slot}
 use Rattle.event.specs.Limits.{slots as slot_limit}
 use Rattle.event.specs.Slots.{fits, no_event, no_slot}
 use Rattle.event.specs.Keys.{slot_keys}
-use Rattle.event_log.specs.declared.LogRead.{LogRead}
-use Rattle.event_log.specs.declared.LogRead.TheVariants as read
 use Rattle.event_log.specs.declared.Pattern.{Pattern}
-use Rattle.event_log.specs.Whole.{accepted, read_log, Passing, outcome_of, read_pattern, log_read_is}
-use Rattle.event_log.proofs.Answers.{told_accepted, told_refused}
+use Rattle.event_log.specs.Whole.{accepted, read_log, read_pattern, Renders}
+use Rattle.event_log.proofs.Answers.{told_refused}
+use Rattle.command.specs.Bytes.{Bytes}
 use Rattle.trace.specs.Match.{without}
 use Rattle.trace.proofs.First.{Tells, match, no_match, greatest, chosen_tells}
 use Rattle.trace.proofs.FirstScan.{join_snoc}
@@ -31,11 +30,16 @@ use Rattle.first.specs.Holding.{chosen_by, Settled}
 use Rattle.first.proofs.Filling.{no_numbers, ss_length}
 use Rattle.slot_search.specs.declared.LogSearch.{LogSearch}
 use Rattle.slot_search.specs.Patterns.{Usable}
-use Rattle.slot_search.specs.Searching.{SearchedIn}
-use Rattle.run.specs.declared.Judged.{Judged}
-use Rattle.run.specs.declared.Outcome.TheVariants.{PatternRefused}
-use Rattle.session.specs.Meaning.{RunOn, log_refused, judged, RunOf, pattern_refused}
-use Rattle.run.specs.Answers.{judged_is, judged_by, judged_on, judged_after, greatest_of}
+use Rattle.slot_search.specs.Searching.{SearchedIn, log_refused, searched}
+use Rattle.slot_search.proofs.Usable.{accepted_usable, accepted_slots}
+use Rattle.std.specs.Prelude.{Result, Ok, Err, Some, None, is_ok}
+use Rattle.event.specs.declared.refusal.Refused.{Refused}
+use Rattle.session.specs.declared.Verdict.{Verdict}
+use Rattle.session.specs.Meaning.{RunOn, judged, RunOf, pattern_refused, over_log}
+use Rattle.session.specs.Meaning as meaning
+use Rattle.run.specs.declared.RunRefusal.{RunRefusal}
+use Rattle.run.specs.declared.RunRefusal.TheVariants as refusal
+use Rattle.run.specs.Answers.{judged_is, verdict_after, judged_after, greatest_of}
 
 -- ---- the verdict of a search
 
@@ -71,11 +75,14 @@ module _ {slots : List Slot} {keys : List ℕ} {size : ℕ} (so : SlotsOf slots 
   tells : Tells dependent fits ss es (chosen_by s) (drop s.found ss)
   tells = chosen_tells no_event dependent fits fit_one_slot ss es h.found.steps h.stuck
 
-  abbrev Said : Judged → Type 0
-  Said r = (bytes : List ℕ) → read_log bytes ≡ accepted es → RunOn ss bytes (judged_is r)
+  abbrev Said : Verdict → Type 0
+  Said v = (bytes : List ℕ) → read_log bytes ≡ accepted es → RunOn ss bytes (judged_is (Ok v))
+
+  abbrev when : Bool → Verdict
+  when found = cond found (record { found = Some (greatest_of slot_limit s.numbers); numbers = s.numbers }) (record { found = None; numbers = replicate slot_limit 0 })
 
   -- every slot has its event
-  matching : s.found ≡ size → Said (judged_by true s.numbers)
+  matching : s.found ≡ size → Said (when true)
   matching q = go (subst (Tells dependent fits ss es (chosen_by s)) (drop_of_length-le ss {i = s.found} (rw (ss_length so) (omega arith))) tells)
     where
       count_is : greatest_of slot_limit s.numbers ≡ greatest (chosen_by s)
@@ -87,7 +94,7 @@ module _ {slots : List Slot} {keys : List ℕ} {size : ℕ} (so : SlotsOf slots 
       named_are : take (length ss) s.numbers ≡ chosen_by s
       named_are = ap (λ (k : ℕ). take k s.numbers) (ss_length so ∙ sym q)
 
-      go : Tells dependent fits ss es (chosen_by s) [] → Said (judged_by true s.numbers)
+      go : Tells dependent fits ss es (chosen_by s) [] → Said (when true)
       go (match m c f) bytes r =
           judged {r = record { matches = true; count = greatest_of slot_limit s.numbers; events = s.numbers }} r
           (record {
@@ -100,10 +107,10 @@ module _ {slots : List Slot} {keys : List ℕ} {size : ℕ} (so : SlotsOf slots 
           (λ t. rw (count_is, named_are) f)
 
   -- one has not
-  lacking : s.found < size → Said (judged_by false s.numbers)
+  lacking : s.found < size → Said (when false)
   lacking l = go (subst (Tells dependent fits ss es (chosen_by s)) (drop-cons ss s.found no_slot (rw (ss_length so) l)) tells)
     where
-      go : {c : Slot} {left : List Slot} → Tells dependent fits ss es (chosen_by s) (c ∷ left) → Said (judged_by false s.numbers)
+      go : {c : Slot} {left : List Slot} → Tells dependent fits ss es (chosen_by s) (c ∷ left) → Said (when false)
       go (no_match d) bytes r =
           judged r
           (record {
@@ -115,7 +122,7 @@ module _ {slots : List Slot} {keys : List ℕ} {size : ℕ} (so : SlotsOf slots 
           })
           (λ t. absurd (d t))
 
-  verdict : Said (judged_by (eqb s.found size) s.numbers)
+  verdict : Said (verdict_after size s)
   verdict =
       by_test (eqb s.found size)
       (λ q. rw q (matching (eqb-true _ _ q)))
@@ -126,16 +133,32 @@ module _ {slots : List Slot} {keys : List ℕ} {size : ℕ} (so : SlotsOf slots 
 pub slots_of : {p : Pattern} → Usable p → SlotsOf p.slots (slot_keys p.slots) p.size
 slots_of u = record { few = u.few; whole = u.whole; keyed = refl; low = u.low }
 
-pub searched_verdict : {p : Pattern} (u : Usable p) {bytes : List ℕ} (r : LogSearch) → SearchedIn p.slots p.size bytes r
+pub searched_verdict : {p : Pattern} (u : Usable p) {bytes : List ℕ} (r : Result LogSearch Refused) → SearchedIn p.slots p.size bytes r
     → RunOn (take p.size p.slots) bytes (judged_is (judged_after p.size r))
-searched_verdict {p} u {bytes} r h = go r.read h.answer
-  where
-    go : (l : LogRead) → log_read_is l ≡ outcome_of (read_log bytes) → RunOn (take p.size p.slots) bytes (judged_is (judged_on l p.size r.search))
-    go (read.Accepted n) q = let t = told_accepted (read_log bytes) q in verdict (slots_of u) (h.settled t.0 t.1) h.within bytes t.1
-    go (read.LogRefused k o) q = log_refused (told_refused (read_log bytes) q)
+searched_verdict u (Err m) (log_refused q) = meaning.log_refused q
+searched_verdict u {bytes} (Ok s) (searched q n w h) = verdict (slots_of u) h w bytes q
 
 -- ---- the pattern's answer tells which case its reading was
 
-pub refused_pattern : (pattern bytes : List ℕ) {k o : ℕ} → Passing.refused k o ≡ outcome_of (read_pattern pattern)
-    → RunOf pattern bytes (judged_is (record { outcome = PatternRefused k o; numbers = replicate slot_limit 0 }))
-refused_pattern pattern bytes a = pattern_refused (told_refused (read_pattern pattern) a)
+-- a refused pattern, as the run hands the refusal on
+pub refused_pattern : {pattern bytes : List ℕ} (r : Result Pattern Refused) (j : Result Verdict RunRefusal) → Renders r (read_pattern pattern) → is_ok r ≡ false
+    → ((m : Refused) → r ≡ Err m → j ≡ Err (refusal.Pattern m)) → RunOf pattern bytes (judged_is j)
+refused_pattern (Ok p) j h z f = absurd (false≢true (sym z))
+refused_pattern {pattern} (Err m) j h z f = rw (f m refl) (pattern_refused (told_refused (read_pattern pattern) h.answer))
+
+module _ (pattern : List ℕ) (p : Pattern) (h : Renders (Ok p) (read_pattern pattern)) (b : Bytes pattern) where
+  pub good_pattern : Usable p
+  good_pattern = subst Usable (sym h.pattern) (accepted_usable pattern b h.answer)
+
+  pub run_on : {bytes : List ℕ} (r : Result LogSearch Refused) → SearchedIn p.slots p.size bytes r → RunOf pattern bytes (judged_is (judged_after p.size r))
+  run_on {bytes} r w =
+      let said : RunOn (take p.size p.slots) bytes (judged_is (judged_after p.size r)) = searched_verdict good_pattern r w in
+      let over = accepted_slots (λ ss. RunOn ss bytes (judged_is (judged_after p.size r))) pattern h.answer
+      (subst (λ (x : Pattern). RunOn (take x.size x.slots) bytes (judged_is (judged_after p.size r))) h.pattern said) in
+      over_log over.1 over.2
+
+  -- a refused log, as the run hands the refusal on
+  pub refused_log : {bytes : List ℕ} (r : Result LogSearch Refused) (j : Result Verdict RunRefusal) → SearchedIn p.slots p.size bytes r → is_ok r ≡ false
+      → ((m : Refused) → r ≡ Err m → j ≡ Err (refusal.Log m)) → RunOf pattern bytes (judged_is j)
+  refused_log (Ok s) j w z f = absurd (false≢true (sym z))
+  refused_log (Err m) j w z f = rw (f m refl) (run_on (Err m) w)

@@ -1,24 +1,32 @@
-use mathlib.Core.Path.{sym, ap, ◌∙◌}
+use borrow.Author.Rules.{rules}
+use mathlib.Core.Path.{◌≡◌}
+use mathlib.Core.Bool.{false}
+use Rattle.std.specs.Prelude.{Ok, is_ok}
 use Rattle.command.specs.Bytes.{Bytes}
-use Rattle.event_log.specs.Whole.{pattern_answer_is}
-use Rattle.session.specs.Meaning.{RunOn, over_log}
-use Rattle.slot_search.proofs.Usable.{accepted_usable, accepted_slots}
-use Rattle.run.specs.Answers.{judged_is}
-use Rattle.run.proofs.Verdict.{refused_pattern}
+use Rattle.run.proofs.Verdict.{refused_pattern, good_pattern, run_on, refused_log}
 use Rattle.run.proofs.run.Goals as goal
 
-pub run_on-requires : goal.run_on-requires
-run_on-requires c = let read = c.read_pattern-read.ensures in
-    let is-bytes : Bytes c.args.pattern.now = λ k. (c.shared_slice_known-1.given k).fits in
-    rw read.pattern (accepted_usable c.args.pattern.now is-bytes (sym (ap pattern_answer_is c.in-Accepted.is) ∙ read.answer))
+pub returns-in_err-p : goal.returns-in_err-p
+returns-in_err-p c =
+    let z : is_ok c.read_pattern.result ≡ false = search rules in
+    refused_pattern c.read_pattern.result _ c.read_pattern.ensures z (λ m q. search rules)
 
-pub returns-in-PatternRefused : goal.returns-in-PatternRefused
-returns-in-PatternRefused c = rw c.pattern_refused.ensures
-    (refused_pattern _ _ (sym (ap pattern_answer_is c.in-PatternRefused.is) ∙ c.read_pattern-read.ensures.answer))
+pub search-requires : goal.search-requires
+search-requires c =
+    let is-bytes : Bytes c.args.pattern.now = λ k. (c.type_inv.pattern k).fits in
+    let q : c.read_pattern.result ≡ Ok c.in_ok-p.p = search rules in
+    good_pattern c.args.pattern.now c.in_ok-p.p (rw q at c.read_pattern.ensures) is-bytes
 
-pub returns-in-Accepted : goal.returns-in-Accepted
-returns-in-Accepted c = let a = c.args in
-    let read = c.read_pattern-read.ensures in
-    let told = sym (ap pattern_answer_is c.in-Accepted.is) ∙ read.answer in
-    let over = accepted_slots (λ ss. RunOn ss a.log.now (judged_is c.run_on.result)) a.pattern.now told (rw read.pattern at c.run_on.ensures) in
-    over_log over.1 over.2
+pub returns-in_err-searched : goal.returns-in_err-searched
+returns-in_err-searched c =
+    let is-bytes : Bytes c.args.pattern.now = λ k. (c.type_inv.pattern k).fits in
+    let q : c.read_pattern.result ≡ Ok c.in_ok-p.p = search rules in
+    let z : is_ok c.search.result ≡ false = search rules in
+    refused_log c.args.pattern.now c.in_ok-p.p (rw q at c.read_pattern.ensures) is-bytes c.search.result _ c.search.ensures z (λ m w. search rules)
+
+pub returns : goal.returns
+returns c =
+    let is-bytes : Bytes c.args.pattern.now = λ k. (c.type_inv.pattern k).fits in
+    let q : c.read_pattern.result ≡ Ok c.in_ok-p.p = search rules in
+    let s : c.search.result ≡ Ok c.in_ok-searched.searched = search rules in
+    rw c.judge.ensures (run_on c.args.pattern.now c.in_ok-p.p (rw q at c.read_pattern.ensures) is-bytes (Ok c.in_ok-searched.searched) (rw s at c.search.ensures))
