@@ -6,7 +6,6 @@ use native.Mathlib.Numerals.{add-one}
 use native.Mathlib.Decide.{dec_lt}
 use native.Mathlib.Omega.{arith}
 use mathlib.Core.Path.{◌≡◌, refl, sym, ap, ap₂, subst, ◌∙◌}
-use mathlib.Core.Logic.{inl, inr}
 use mathlib.Core.Bool.{true, false}
 use mathlib.Core.List.{List, [], ◌∷◌, ◌++◌}
 use lib.Dec.{eqb, ltb}
@@ -14,6 +13,7 @@ use lib.ListN.{length, get_or, set, take, drop, replicate, length-set, length-re
 use lib.Seq.{take_all, length-take-le, drop-cons, get_or-take, take-suc-set, get_or-set_other}
 use borrow.Author.Tests.{eqb-true, ne_eqb, lt-ltb, le-ltb, le-leb}
 use Rattle.event.proofs.Tests.{by_test}
+use Rattle.std.specs.Prelude.{Some, None}
 use Rattle.event.specs.declared.Event.{Event}
 use Rattle.event.specs.declared.Slot.{Slot}
 use Rattle.event.specs.Limits.{threads, slots as slot_limit}
@@ -230,20 +230,18 @@ module _ {slots : List Slot} {keys : List ℕ} {size : ℕ} (so : SlotsOf slots 
         settled_by_lem (settles_on no_event dependent thread_of fits one_thread (λ s. s.thread) of_slot es steps_on barred_is (ls.each s.found l) (le-leb _ _ u))
 
     -- or a return to the start;
-    pub none_above : FirstAbove es slot barred 0 → Settled es slots size s
-    none_above (inl f) = absurd (let u = f.0 in let z : ⊥ = omega arith in z)
-    none_above (inr f) = settled_by_lem (settles_none no_event dependent thread_of fits one_thread (λ s. s.thread) of_slot es steps_on barred_is f.1)
+    pub none_above : FirstAbove es slot barred None → Settled es slots size s
+    none_above f = settled_by_lem (settles_none no_event dependent thread_of fits one_thread (λ s. s.thread) of_slot es steps_on barred_is f)
 
     -- or the first that does not is the next of the choice
-    pub returns_to : (n : ℕ) → (n ≡ 0 → ⊥) → FirstAbove es slot barred n → NextIs es slots size s n
-    returns_to n d (inl f) =
+    pub returns_to : (n : ℕ) → FirstAbove es slot barred (Some n) → NextIs es slots size s n
+    returns_to n f =
         record {
           shaped = h.shaped;
           stamps = h.stamps l;
           among = f.0;
           steps = settles_back no_event dependent thread_of fits one_thread (λ s. s.thread) of_slot es steps_on barred_is f;
         }
-    returns_to n d (inr f) = absurd (d f.0)
 
   -- ---- the clocks when an event is found
 

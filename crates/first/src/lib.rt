@@ -82,17 +82,14 @@ fn settle(
 {
     let mut s = from;
     loop {
-        let k = s.found;
-        let stamps = s.stamps;
-        let slot = slots[k];
-        let barred = clock::count_of(slot.thread, stamps);
-        if last[k] <= barred {
+        let slot = slots[s.found];
+        let barred = clock::count_of(slot.thread, s.stamps);
+        if last[s.found] <= barred {
             return s;
         }
-        let e = passes::first_above(log, n, slot, barred);
-        if e == 0 {
+        let Some(e) = passes::first_above(log, n, slot, barred) else {
             return s;
-        }
+        };
         s = fill(s, e);
         if s.found == size {
             return s;
@@ -109,16 +106,14 @@ fn fill(s: Search, n: usize) -> Search
     requires { (s.found < slot_limit) × (n ≤ events) }
     ensures { result ≡ filled s n }
 {
-    let k = s.found;
     let mut numbers = s.numbers;
-    numbers[k] = n as u16;
-    let stamps = s.stamps;
+    numbers[s.found] = n as u16;
     Search {
-        found: k + 1,
+        found: s.found + 1,
         want: NO_KEY,
         running: false,
         numbers,
-        stamps,
+        ..s
     }
 }
 
@@ -127,17 +122,11 @@ fn look_on(keys: [u16; event::SLOTS], size: usize, s: Search, stamp: Stamp) -> S
     requires { (s.found < slot_limit) × (0 < s.found) }
     ensures { result ≡ looking_on keys size s stamp }
 {
-    let k = s.found;
-    let want = keys[k];
-    let numbers = s.numbers;
-    let before = s.stamps;
-    let stamps = clock::join(before, stamp);
     Search {
-        found: k,
-        want,
-        running: k + 1 < size,
-        numbers,
-        stamps,
+        want: keys[s.found],
+        running: s.found + 1 < size,
+        stamps: clock::join(s.stamps, stamp),
+        ..s
     }
 }
 

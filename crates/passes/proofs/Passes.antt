@@ -5,13 +5,13 @@ use native.Mathlib.Nat.{le_refl}
 use native.Mathlib.Numerals.{add-one}
 use native.Mathlib.Omega.{arith}
 use mathlib.Core.Path.{◌≡◌, refl, sym, ap, ap₂, subst, ◌∙◌}
-use mathlib.Core.Logic.{inl, inr}
 use mathlib.Core.Bool.{Bool, true, false, cond}
 use mathlib.Core.List.{List, [], ◌∷◌, ◌++◌}
 use lib.Dec.{eqb}
 use lib.ListN.{length, length-append}
 use lib.Seq.{take_at}
 use borrow.Author.Tests.{eq-eqb, lt-ltb}
+use Rattle.std.specs.Prelude.{Some, None}
 use Rattle.event.proofs.Tests.{by_test}
 use Rattle.event.specs.declared.Event.{Event}
 use Rattle.event.specs.declared.Slot.{Slot}
@@ -130,11 +130,11 @@ module _ {bytes : List ℕ} {es : List Event} {n : ℕ} (ls : Leads bytes es n) 
             none = rw (add-one i) (none_up s.none (this ∙ f));
           }
 
-      pub this_one : exceeds (fits slot e) counted_up barred ≡ true → FirstAbove es slot barred (i + 1)
-      this_one t = let c = ls.count in rw (add-one i) (inl (omega arith, this ∙ t, λ m u v. s.none m (u, omega arith)))
+      pub this_one : exceeds (fits slot e) counted_up barred ≡ true → FirstAbove es slot barred (Some (i + 1))
+      this_one t = let c = ls.count in rw (add-one i) (omega arith, this ∙ t, λ m u v. s.none m (u, omega arith))
 
-  pub nowhere : {place at i : ℕ} → Sought bytes es slot barred place at i → n ≤ i → FirstAbove es slot barred 0
-  nowhere s l = let c = ls.count in inr (refl, λ m u. s.none m (u.0, let v = u.1 in omega arith))
+  pub nowhere : {place at i : ℕ} → Sought bytes es slot barred place at i → n ≤ i → FirstAbove es slot barred None
+  nowhere s l = let c = ls.count in λ m u. s.none m (u.0, let v = u.1 in omega arith)
 
 -- ---- the stamp of an event
 

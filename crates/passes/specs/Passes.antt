@@ -1,6 +1,6 @@
 -- What a pass over the leading events of a log, from its start, gives.
 -- Assumes nothing.
-use Rattle.std.specs.Prelude.{ℕ, zero, ◌≤◌, ◌<◌, ◌≡◌, ◌⊎◌, Bool, List, [], length, get_or, take}
+use Rattle.std.specs.Prelude.{ℕ, ◌≤◌, ◌<◌, ◌≡◌, Bool, List, [], length, get_or, take, Option, Some, None}
 use Rattle.event.specs.declared.Event.{Event}
 use Rattle.event.specs.declared.Slot.{Slot}
 use Rattle.event.specs.Limits.{threads, slots as slot_limit, events}
@@ -38,9 +38,10 @@ pub record LastsOf (es : List Event) (slots : List Slot) (size : ℕ) (last : Li
 abbrev pub fills_at : List Event → Slot → ℕ → ℕ → Bool
 fills_at = above_of no_event dependent thread_of fits
 
--- the number of the first event that does; 0 where none does
-abbrev pub FirstAbove : List Event → Slot → ℕ → ℕ → Type 0
-FirstAbove es slot j r = FirstOf (fills_at es slot j) (length es) r ⊎ ((r ≡ zero) × NoneOf (fills_at es slot j) (length es))
+-- the number of the first event that does; none where none does
+abbrev pub FirstAbove : List Event → Slot → ℕ → Option ℕ → Type 0
+FirstAbove es slot j (Some r) = FirstOf (fills_at es slot j) (length es) r
+FirstAbove es slot j None = NoneOf (fills_at es slot j) (length es)
 
 -- the stamp of event number n, and what is kept once it has arrived; before any event the clocks were those of no events
 pub record StampedTo (es : List Event) (keys : List ℕ) (n : ℕ) (last : List ℕ) (stamp : Stamp) (clocks-after last-after : List ℕ) : Type 0 where

@@ -1,7 +1,7 @@
 // Passes over the leading events of a log: the clocks that follow each event, the last places of events by their keys, and what a pass from the start finds.
 #![tactic(auto)]
 
-ghost use Rattle.std.specs.Prelude.{◌≡◌, cond, List, ℕ, ◌≤◌};
+ghost use Rattle.std.specs.Prelude.{◌≡◌, cond, List, ℕ, ◌≤◌, IfSome};
 ghost use Rattle.event.specs.declared.Event.{Event};
 ghost use Rattle.event.specs.Slots.{fits};
 ghost use Rattle.trace.proofs.FirstScan.{exceeds};
@@ -73,24 +73,24 @@ pub fn pass(
     stamp
 }
 
-// The number of the first of n events of a log that fits the slot and has a place in its thread above `barred`; 0 where none does.
-pub fn first_above(log: &[u8], n: usize, slot: Slot, barred: u16) -> usize
-    ensures within { result ≤ n }
+// The number of the first of n events of a log that fits the slot and has a place in its thread above `barred`.
+pub fn first_above(log: &[u8], n: usize, slot: Slot, barred: u16) -> Option<usize>
+    ensures within { IfSome result (λ e. e ≤ n) }
     ensures first { (es : List Event) → Leads log.now es n → FirstAbove es slot barred result }
 {
     let mut place: u16 = 0;
     let mut at: usize = 0;
     for i in 0..n {
         let Ok(Some((event, next))) = command::read_event(log, at) else {
-            return 0;
+            return None;
         };
         place = clock::next_count(place, event.thread == slot.thread);
         if above(slot, event, place, barred) {
-            return i + 1;
+            return Some(i + 1);
         }
         at = next;
     }
-    0
+    None
 }
 
 fn above(slot: Slot, e: Event, place: u16, barred: u16) -> bool

@@ -1,7 +1,6 @@
 use native.Mathlib.Omega.{arith}
 use mathlib.Core.Bool.{false≢true}
 use Rattle.first.proofs.Filling.{fills_last, fills_on, own_known, follows_on}
-use borrow.Author.Rules.{rules}
 use Rattle.first.proofs.choose.Goals as goal
 
 pub returns-then-full-size : goal.returns-then-full-size

@@ -1,6 +1,5 @@
 use mathlib.Core.Path.{◌≡◌, refl, sym, ◌∙◌}
 use mathlib.Core.Bool.{true, false, false≢true}
-use borrow.Author.Rules.{rules}
 use Rattle.first.proofs.own_stamp.Goals as goal
 
 pub returns-then-not-first : goal.returns-then-not-first

@@ -1,53 +1,48 @@
-use Prim.Native.Nat.{◌-◌, ◌≤◌, ◌<◌}
 use native.Mathlib.Omega.{arith}
 use mathlib.Core.Path.{sym}
-use mathlib.Core.List.{List}
-use Rattle.event.specs.declared.Event.{Event}
-use Rattle.passes.specs.Passes.{Leads, SlotsOf, LastsOf}
-use Rattle.first.specs.Holding.{Underway}
 use Rattle.first.proofs.Filling.{none_earlier, none_above, returns_to, fills_last, fills_on}
 use borrow.Author.Rules.{rules}
 use Rattle.first.proofs.settle.Goals as goal
 
-pub loop-keys-init : goal.loop-keys-init
-loop-keys-init c = (c.requires.0, (search rules, λ es ld so f ls. f))
+pub loop-s-init : goal.loop-s-init
+loop-s-init c = (c.requires.0, (search rules, λ es ld so f ls. f))
 
-pub returns-then-last-k : goal.returns-then-last-k
-returns-then-last-k c = let l = c.loop-keys in record {
+pub returns-then-last-s : goal.returns-then-last-s
+returns-then-last-s c = let l = c.loop-s in record {
   within = (l.invariant.1.0, let u = l.invariant.0 in omega arith);
-  settled = λ es ld so f ls. none_earlier so (l.invariant.1.1 es ld so f ls) l.invariant.0 ls (rw (sym c.count_of-barred.ensures) c.if-last-k.true);
+  settled = λ es ld so f ls. none_earlier so (l.invariant.1.1 es ld so f ls) l.invariant.0 ls (rw (sym c.count_of-barred.ensures) c.if-last-s.true);
 }
 
-pub returns-then-e-eq0 : goal.returns-then-e-eq0
-returns-then-e-eq0 c = let l = c.loop-keys in record {
+pub returns-in_default : goal.returns-in_default
+returns-in_default c = let l = c.loop-s in record {
   within = (l.invariant.1.0, let u = l.invariant.0 in omega arith);
   settled = λ es ld so f ls.
       none_above so (l.invariant.1.1 es ld so f ls) l.invariant.0 ls
-      (rw (c.if-e-eq0.true, c.count_of-barred.ensures) at (c.first_above-e.ensures.first es ld));
+      (rw (c.in_default.is, c.count_of-barred.ensures) at (c.first_above.ensures.first es ld));
 }
 
 pub returns-then-s-size : goal.returns-then-s-size
-returns-then-s-size c = let l = c.loop-keys in
+returns-then-s-size c = let l = c.loop-s in
     let q = c.fill-s.ensures in record {
       within = (rw q (let u = l.invariant.1.0 in omega arith), rw q (let u = l.invariant.0 in omega arith));
       settled = λ es ld so f ls.
           rw q
-          (fills_last so (returns_to so (l.invariant.1.1 es ld so f ls) l.invariant.0 ls _ c.if-e-eq0.false
-          (rw (sym c.count_of-barred.ensures) (c.first_above-e.ensures.first es ld))) l.invariant.0 (rw q at c.if-s-size.true));
+          (fills_last so (returns_to so (l.invariant.1.1 es ld so f ls) l.invariant.0 ls _
+          (rw (c.in-Some.is, c.count_of-barred.ensures) at (c.first_above.ensures.first es ld))) l.invariant.0 (rw q at c.if-s-size.true));
     }
 
 pub look_on-s-requires : goal.look_on-s-requires
 look_on-s-requires c = let q = c.fill-s.ensures in
-    let u = c.loop-keys.invariant.0 in
+    let u = c.loop-s.invariant.0 in
     let d = rw q at c.if-s-size.false in
     let few = c.requires.1.0 in
     rw q (omega arith, omega arith)
 
-pub loop-keys-smaller : goal.loop-keys-smaller
-loop-keys-smaller c = let q = c.fill-s.ensures in let u = c.loop-keys.invariant.0 in rw (c.look_on-s.ensures, q) (omega arith)
+pub loop-s-smaller : goal.loop-s-smaller
+loop-s-smaller c = let q = c.fill-s.ensures in let u = c.loop-s.invariant.0 in rw (c.look_on-s.ensures, q) (omega arith)
 
-pub loop-keys-preserved : goal.loop-keys-preserved
-loop-keys-preserved c = let l = c.loop-keys in
+pub loop-s-preserved : goal.loop-s-preserved
+loop-s-preserved c = let l = c.loop-s in
     let q = c.fill-s.ensures in
     let u = l.invariant.0 in
     let v = l.invariant.1.0 in
@@ -56,8 +51,8 @@ loop-keys-preserved c = let l = c.loop-keys in
       (
         rw (c.look_on-s.ensures, q) (omega arith),
         λ es ld so f ls.
-            let t = returns_to so (l.invariant.1.1 es ld so f ls) l.invariant.0 ls c.first_above-e.result c.if-e-eq0.false
-            (rw (sym c.count_of-barred.ensures) (c.first_above-e.ensures.first es ld)) in
+            let t = returns_to so (l.invariant.1.1 es ld so f ls) l.invariant.0 ls _
+            (rw (c.in-Some.is, c.count_of-barred.ensures) at (c.first_above.ensures.first es ld)) in
             let st = c.pass-stamp.ensures es _ ld t.among.0 t.among.1 c.fresh-clocks.ensures.history in
             rw (c.look_on-s.ensures, q) (fills_on so t l.invariant.0 _ st.stamp_is (omega arith)),
       ),
