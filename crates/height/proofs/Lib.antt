@@ -1,4 +1,3 @@
 pub mod Halves
 pub mod Tenths
-pub mod Remainders
 pub mod MinusZero

@@ -1,7 +1,7 @@
 // Heights in metres to one decimal: rounding apart from printing, the sign apart from the figures.
 #![tactic(auto)]
 
-ghost use Rattle.std.specs.Prelude.{◌/◌, ◌%◌, ◌≡◌, nat_abs};
+ghost use Rattle.std.specs.Prelude.{◌≡◌, nat_abs};
 ghost use Rattle.height.specs.Rounding.{is_half, tenths_of, former_tenths_of, metres_of};
 
 // The sign, the whole metres and the tenth of a rounded height.
@@ -27,8 +27,7 @@ pub fn rounded(mm: i32) -> i32
 fn half(mm: i32) -> bool
     ensures { result ≡ is_half (nat_abs mm) }
 {
-    let rest = mm % 100;
-    rest == 50 || rest == -50
+    (mm % 100).abs() == 50
 }
 
 // The millimetres rounded to tenths of a metre, a half away from zero: to the even one from an odd one.
@@ -47,22 +46,15 @@ fn away_from_zero(mm: i32) -> i32
 }
 
 // A height as it is printed.
+#[tactic(auto, unfolding(crate::specs::Rounding::metres_of))]
 pub fn in_metres(mm: i32) -> Metres
     ensures { result ≡ metres_of mm }
 {
     let tenths = rounded(mm);
-    if tenths < 0 {
-        return figures(true, (-tenths) as u32);
-    }
-    figures(false, tenths as u32)
-}
-
-fn figures(below: bool, tenths: u32) -> Metres
-    ensures { result ≡ record { below = below; whole = tenths / 10; tenth = tenths % 10 } }
-{
+    let figures = tenths.unsigned_abs();
     Metres {
-        below,
-        whole: tenths / 10,
-        tenth: tenths % 10,
+        below: tenths < 0,
+        whole: figures / 10,
+        tenth: figures % 10,
     }
 }
