@@ -2,12 +2,12 @@
 use Prim.Native.Nat.{ℕ, zero, suc, ◌-◌, ◌^◌, ◌≤◌, ◌<◌}
 use native.Mathlib.Omega.{arith}
 use mathlib.Core.Path.{◌≡◌, refl, sym, ap, subst, ◌∙◌}
-use mathlib.Core.Bool.{Bool, true, false, cond}
 use mathlib.Core.Option.{some}
 use mathlib.Core.List.Memᴰ.{head}
 use mathlib.Core.List.Memᴰ.{tail}
 use mathlib.Core.List.{List, [], ◌∷◌, ◌++◌, Memᴰ as Mem}
 use lib.ListN.{length, replicate}
+use Rattle.std.specs.Prelude.{Option as Maybe, Some, Result, Ok}
 use Rattle.event.specs.declared.Event.{Event}
 use Rattle.event.specs.Slots.{no_event}
 use Rattle.event.proofs.Places.{places_length}
@@ -18,10 +18,8 @@ use Rattle.enumeration.specs.Orders.{NextAmong, next}
 use Rattle.enumeration.proofs.Enumeration.{rank, rank_bound, rank_smaller}
 use Rattle.enumeration.proofs.OrderLists.{order_sized}
 use Rattle.order_rows.specs.Rows.{order_places, order_row}
-use Rattle.orders_log.specs.declared.Given.{Given}
-use Rattle.orders_log.specs.declared.Given.TheVariants as case
-use Rattle.orders_log.specs.declared.GivenRow.{GivenRow}
-use Rattle.orders_log.specs.OrderCalls.{IsOrder, Giving, order, last, log_refused, orders_refused, FirstGives, first, no_order, after, NextAmongEvents, NextGives, short_log, refused_log, long_log, given_of, GivesSo}
+use Rattle.orders_log.specs.declared.OrdersRefusal.{OrdersRefusal}
+use Rattle.orders_log.specs.OrderCalls.{IsOrder, Giving, order, last, log_refused, orders_refused, no_order, after, NextAmongEvents, NextGives, short_log, refused_log, long_log, given_is, by_row, GivesSo}
 use Rattle.orders_log.proofs.EveryOrder.{is_order, afterwards_one}
 
 -- ---- rows as numbers in base 9
@@ -68,39 +66,24 @@ next_rises (NextGives.unlisted (refused_log p)) q e = absurd (both_ways refl (ap
 next_rises (NextGives.unlisted (long_log p l)) q e = absurd (both_ways refl (ap is_order (sym e)))
 next_rises (short_log {es = es} p l m) q e = among_rises es l m q e
 
--- ---- every row has eight places
-
-abbrev Sized : Giving → Type 0
-Sized a = length (given_of a).row ≡ order_places
-
-first_sized : {bytes : List ℕ} {a : Giving} → FirstGives bytes a → Sized a
-first_sized (FirstGives.unlisted (refused_log p)) = refl
-first_sized (FirstGives.unlisted (long_log p l)) = refl
-first_sized (first {es = es} {o = o} p l f) = eight es l o f.order
-
-pub first_row_sized : {bytes : List ℕ} {r : GivenRow} → GivesSo (FirstGives bytes) r → length r.row ≡ order_places
-first_row_sized g = ap (λ (x : GivenRow). length x.row) g.answer ∙ first_sized g.so
-
 -- ---- how far it is to the end
 
-abbrev is_given : Given → Bool
-is_given case.Order = true
-is_given case.Last = false
-is_given (case.LogRefused k o) = false
-is_given (case.OrdersRefused k o) = false
+-- how many rows are larger than an order's, and one
+distance_to : Giving → ℕ
+distance_to (order row) = suc (9 ^ order_places - rank 9 row)
+distance_to last = 0
+distance_to (log_refused k o) = 0
+distance_to (orders_refused k o) = 0
 
-pub distance : GivenRow → ℕ
-distance r = cond (is_given r.given) (suc (9 ^ order_places - rank 9 r.row)) 0
+pub distance : Result (Maybe (List ℕ)) OrdersRefusal → ℕ
+distance r = distance_to (given_is r)
 
-pub nearer : (bytes : List ℕ) (r s : GivenRow) → r.given ≡ case.Order → GivesSo (NextGives bytes r.row) s → distance s < distance r
-unfolding distance
-nearer bytes r s t g = subst (λ x. distance x < distance r) (sym g.answer) (by g.what g.so)
+pub nearer : (bytes row : List ℕ) (r : Result (Maybe (List ℕ)) OrdersRefusal) → GivesSo (NextGives bytes row) r → distance r < distance (Ok (Some row))
+unfolding distance distance_to
+nearer bytes row r g = subst (λ x. distance_to x < distance_to (order row)) (sym g.answer) (by g.what g.so)
   where
-    far : distance r ≡ suc (9 ^ order_places - rank 9 r.row)
-    far = rw t
-
-    by : (a : Giving) → NextGives bytes r.row a → distance (given_of a) < distance r
-    by (order q) n = let h = next_rises n q refl in rw far (let a = h.0 in let b = h.1 in omega arith)
-    by last n = rw far (omega arith)
-    by (log_refused k o) n = rw far (omega arith)
-    by (orders_refused k o) n = rw far (omega arith)
+    by : (a : Giving) → NextGives bytes row a → distance_to (by_row a) < distance_to (order row)
+    by (order q) n = let h = next_rises n q refl in let a = h.0 in let b = h.1 in omega arith
+    by last n = omega arith
+    by (log_refused k o) n = omega arith
+    by (orders_refused k o) n = omega arith

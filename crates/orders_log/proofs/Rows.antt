@@ -1,7 +1,7 @@
 -- A list that is given stands for an order exactly where it has eight places, those beyond the events hold 0, and those before them an order.
 use Prim.Native.Nat.{ℕ, ◌-◌, ◌≤◌}
 use native.Mathlib.Omega.{arith}
-use mathlib.Core.Path.{◌≡◌, refl, sym, ap, ◌∙◌}
+use mathlib.Core.Path.{◌≡◌, sym, ap, ◌∙◌}
 use mathlib.Core.Logic.{◌↔◌}
 use mathlib.Core.Bool.{Bool, true, false}
 use mathlib.Core.List.{List}
@@ -58,5 +58,5 @@ tested events count row r few l z e es n p =
     )
 
 -- where it fails before
-pub untested : (row : List ℕ) (es : List Event) → (IsRow es row → ⊥) → (false ≡ true) ↔ IsRow es row
-untested row es d = (λ t. absurd (both_ways t refl), λ s. absurd (d s))
+pub untested : (row : List ℕ) (es : List Event) {r : Bool} → r ≡ false → (IsRow es row → ⊥) → (r ≡ true) ↔ IsRow es row
+untested row es f d = (λ t. absurd (both_ways t f), λ s. absurd (d s))

@@ -1,14 +1,14 @@
 -- "For a log of 0 to 8 events, a call gives the first order, and another the one after a given order, or says that it was the last." (document 02, Note 13)
-use Rattle.std.specs.Prelude.{ℕ, zero, suc, ◌<◌, ◌≤◌, ◌≡◌, cond, List, ltb, length, replicate}
+use Rattle.std.specs.Prelude.{ℕ, zero, suc, ◌<◌, ◌≤◌, ◌≡◌, List, length, Option as Maybe, Some, None, Result, Ok, Err}
 use Rattle.std.proofs.Math.Option.{Option, some, none}
 use Rattle.event.specs.declared.Event.{Event}
+use Rattle.event.specs.Refusals.{refusal_number}
 use Rattle.event_log.specs.Whole.{read_log, accepted, refused}
 use Rattle.dependence.specs.Dependence.{dependent}
-use Rattle.trace.proofs.Runs.{run}
 use Rattle.enumeration.specs.Orders as orders
 use Rattle.order_rows.specs.Rows.{order_places, order_row}
-use Rattle.orders_log.specs.declared.Given.TheVariants as case
-use Rattle.orders_log.specs.declared.GivenRow.{GivenRow}
+use Rattle.orders_log.specs.declared.OrdersRefusal.{OrdersRefusal}
+use Rattle.orders_log.specs.declared.OrdersRefusal.TheVariants as case
 
 -- "every order reachable by swaps", "lists of event numbers": a log's events, and the numbers
 abbrev pub IsOrder : List Event → List ℕ → Type 0
@@ -53,16 +53,30 @@ pub data NextGives (bytes row : List ℕ) : Giving → Type 0 where
 
 -- ---- how the answers say it
 
--- what the first call gives for a log of so many events
-abbrev pub first_of : ℕ → Giving
-first_of n = cond (ltb order_places n) (orders_refused 25 0) (order (run 1 n))
+-- a log of so many events, at most eight
+pub record ShortLog (bytes : List ℕ) (count : ℕ) : Type 0 where
+  pub events : List Event
+  pub accepts : read_log bytes ≡ accepted events
+  pub sized : count ≡ length events
+  pub few : count ≤ order_places
 
--- "places beyond the log's events are 0, and all are 0 after the last"; after a refusal too, "other fields 0"
-abbrev pub given_of : Giving → GivenRow
-given_of (order o) = record { given = case.Order; row = order_row o }
-given_of last = record { given = case.Last; row = replicate order_places 0 }
-given_of (log_refused k o) = record { given = case.LogRefused k o; row = replicate order_places 0 }
-given_of (orders_refused k o) = record { given = case.OrdersRefused k o; row = replicate order_places 0 }
+-- why no order is given
+abbrev pub refusal_is : OrdersRefusal → Giving
+refusal_is (case.Log r) = log_refused (refusal_number r.reason) r.offset
+refusal_is (case.Orders r) = orders_refused (refusal_number r.reason) r.offset
+
+-- what an answer gives, an order by its row
+abbrev pub given_is : Result (Maybe (List ℕ)) OrdersRefusal → Giving
+given_is (Ok (Some row)) = order row
+given_is (Ok None) = last
+given_is (Err r) = refusal_is r
+
+-- "places beyond the log's events are 0": an order by its row
+abbrev pub by_row : Giving → Giving
+by_row (order o) = order (order_row o)
+by_row last = last
+by_row (log_refused k o) = log_refused k o
+by_row (orders_refused k o) = orders_refused k o
 
 -- an answer says, in its own form, something that is so
 pub record SaysSo {A : Type 0} (form : Giving → A) (So : Giving → Type 0) (r : A) : Type 0 where
@@ -70,8 +84,8 @@ pub record SaysSo {A : Type 0} (form : Giving → A) (So : Giving → Type 0) (r
   pub so : So what
   pub answer : r ≡ form what
 
-abbrev pub GivesSo : (Giving → Type 0) → GivenRow → Type 0
-GivesSo So r = SaysSo given_of So r
+abbrev pub GivesSo : (Giving → Type 0) → Result (Maybe (List ℕ)) OrdersRefusal → Type 0
+GivesSo So r = SaysSo by_row So (given_is r)
 
 -- ---- all of them
 

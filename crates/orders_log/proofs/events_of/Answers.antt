@@ -8,10 +8,7 @@ use Rattle.orders_log.proofs.Answers.{events_step, event_is}
 use Rattle.orders_log.proofs.events_of.Goals as goal
 
 pub loop-n-preserved : goal.loop-n-preserved
-loop-n-preserved c = let a = c.args in
-    let l = c.loop-n in
-    let t = c.loop-n-test.true in (
-      omega arith,
-      λ es p q. events_step es l.n l.events _ (omega arith) (omega (arith, c.requires)) (l.invariant.1 es p q)
-          (c.event_numbered-e.ensures.accepted es (event_at no_event es (l.n + 1)) p (rw (add-one l.n) (event_is es l.n (omega arith))) ∙ rw (add-one l.n)),
-    )
+loop-n-preserved c es p q = let l = c.loop-n in
+    let t = c.loop-n-test.true in
+    events_step es l.n l.events _ (omega arith) (omega (arith, c.requires)) (l.invariant es p q)
+    (c.event_numbered.ensures.accepted es (event_at no_event es (l.n + 1)) p (rw (add-one l.n) (event_is es l.n (omega arith))) ∙ rw (add-one l.n))

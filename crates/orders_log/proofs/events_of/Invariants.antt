@@ -1,4 +1,3 @@
-use Prim.Native.Nat.{◌-◌, ◌≤◌}
 use mathlib.Core.Path.{◌≡◌}
 use mathlib.Core.List.{List}
 use lib.ListN.{length, take}
@@ -10,7 +9,4 @@ use Rattle.order_rows.specs.Rows.{order_places}
 use Rattle.orders_log.proofs.events_of.Given as goal
 
 abbrev pub invariant-loop-n : goal.invariant-loop-n
-invariant-loop-n l = (l.n ≤ l.count) × ((es : List Event) → read_log l.log ≡ accepted es → l.count ≡ length es → l.events ≡ in_places no_event order_places (take l.n es))
-
-abbrev pub decreases-loop-n : goal.decreases-loop-n
-decreases-loop-n l = l.count - l.n
+invariant-loop-n l = (es : List Event) → read_log l.log ≡ accepted es → l.count ≡ length es → l.events ≡ in_places no_event order_places (take l.n es)

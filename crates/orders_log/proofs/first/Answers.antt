@@ -1,13 +1,12 @@
-use Rattle.event_log.specs.Whole.{read_log}
-use Rattle.orders_log.proofs.Answers.{log_passed, log_broken, first_given, refused_first}
+use mathlib.Core.Path.{◌≡◌}
+use Rattle.std.proofs.Common.{rules, Err}
+use Rattle.orders_log.proofs.Answers.{first_refused, first_given}
 use Rattle.orders_log.proofs.first.Goals as goal
 
-pub returns-in-Accepted-clause-gives : goal.returns-in-Accepted-clause-gives
-returns-in-Accepted-clause-gives c =
-    let bytes = c.args.log.now in
-    first_given bytes _ (log_passed (read_log bytes) _ c.in-Accepted.ensures) c.first_of.ensures
+pub returns-in_err-n : goal.returns-in_err-n
+returns-in_err-n c =
+    let z : c.from_residual.result ≡ Err c.in_err-n.field-0.0 = search rules in
+    rw z (first_refused _ c.in_err-n.ensures)
 
-pub returns-in-LogRefused-clause-gives : goal.returns-in-LogRefused-clause-gives
-returns-in-LogRefused-clause-gives c =
-    let bytes = c.args.log.now in
-    refused_first bytes _ _ (log_broken (read_log bytes) _ _ c.in-LogRefused.ensures) c.no_row.ensures
+pub returns : goal.returns
+returns c = first_given c.in_ok-n.ensures c.first.ensures
