@@ -7,20 +7,21 @@ use mathlib.Core.List.{List}
 use lib.Dec.{eqb}
 use lib.ListN.{length, get_or, length-append}
 use borrow.Author.Tests.{eq-eqb, ne_eqb}
+use Rattle.std.specs.Prelude.{Option as Maybe, Some, None, Result, Ok, Err}
+use Rattle.event.specs.declared.refusal.Refused.{Refused}
+use Rattle.event.specs.Refusals.{refusal_number}
 use Rattle.page.specs.Text.{ascii, decimal}
 use Rattle.page.specs.Lines.{longest, too_long_line}
 use Rattle.page.specs.Page.{room, onto, PutIn}
-use Rattle.writer.specs.declared.Written.{Written}
 use Rattle.page.specs.declared.Page.{Page}
 use Rattle.event.proofs.Tests.{by_test}
 use Rattle.page.proofs.Onto.{onto_append}
 use Rattle.page.proofs.Lengths.{number, refusal}
-use Rattle.orders_log.specs.declared.Given.{Given}
-use Rattle.orders_log.specs.declared.Given.TheVariants as case
 use Rattle.order_rows.specs.Rows.{order_places}
-use Rattle.orders_log.specs.declared.GivenRow.{GivenRow}
-use Rattle.orders_log.specs.OrderCalls.{last, given_of, FirstGives, GivesSo}
-use Rattle.orders_text.specs.OrdersText.{at_place, line_from, numbers_before_zero, case_line, given_line, Begins, long}
+use Rattle.orders_log.specs.declared.OrdersRefusal.{OrdersRefusal}
+use Rattle.orders_log.specs.declared.OrdersRefusal.TheVariants as case
+use Rattle.orders_log.specs.OrderCalls.{FirstGives, GivesSo}
+use Rattle.orders_text.specs.OrdersText.{at_place, line_from, numbers_before_zero, given_line, Begins, long}
 use Rattle.orders_text.specs.OrdersText as orders_text_module
 
 -- ---- number after number
@@ -76,20 +77,19 @@ line_length row i (suc m) j =
     (λ t. rw t (omega arith))
     (λ f. let h = line_length row (suc i) m (suc j) in let k = place_length j (get_or row i 0) in rw (f, length-append) (omega arith))
 
-pub case_length : (g : Given) (row : List ℕ) → length (case_line g row) ≤ room
-case_length case.Order row = let h = line_length row 0 order_places 0 in omega arith
-case_length case.Last row = omega arith
-case_length (case.LogRefused k o) row = let h = refusal k o in omega arith
-case_length (case.OrdersRefused k o) row = let h = refusal k o in omega arith
+pub given_length : (g : Result (Maybe (List ℕ)) OrdersRefusal) → length (given_line g) ≤ room
+given_length (Ok (Some row)) = let h = line_length row 0 order_places 0 in omega arith
+given_length (Ok None) = omega arith
+given_length (Err (case.Log r)) = let h = refusal (refusal_number r.reason) r.offset in omega arith
+given_length (Err (case.Orders r)) = let h = refusal (refusal_number r.reason) r.offset in omega arith
 
 -- ---- what is printed first
 
-module _ {log before after : List ℕ} {w : Written} {r : GivenRow} where
-  pub begins_long : longest < length log → r ≡ given_of last → PutIn (λ text. text ≡ too_long_line) before after w
-      → PutIn (λ text. Begins log text r) before after w
-  begins_long l e p = record { text = p.text; kind = rw (p.kind, e) (long l); short = p.short; answer = p.answer; buffer = p.buffer }
+module _ {log before after : List ℕ} {w : Result ℕ Refused} where
+  pub begins_long : longest < length log → PutIn (λ text. text ≡ too_long_line) before after w → PutIn (λ text. Begins log text (Ok None)) before after w
+  begins_long l p = record { text = p.text; kind = rw p.kind (long l); short = p.short; answer = p.answer; buffer = p.buffer }
 
-  pub begins_short : length log ≤ longest → GivesSo (FirstGives log) r → PutIn (λ text. text ≡ given_line r) before after w
-      → PutIn (λ text. Begins log text r) before after w
+  pub begins_short : {g : Result (Maybe (List ℕ)) OrdersRefusal} → length log ≤ longest → GivesSo (FirstGives log) g → PutIn (λ text. text ≡ given_line g) before after w
+      → PutIn (λ text. Begins log text g) before after w
   begins_short l g p =
       record { text = p.text; kind = rw p.kind (orders_text_module.short l g); short = p.short; answer = p.answer; buffer = p.buffer }

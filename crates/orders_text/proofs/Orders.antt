@@ -9,15 +9,14 @@ use mathlib.Core.Bool.{cond}
 use lib.Dec.{eqb}
 use lib.ListN.{length, get_or, replicate}
 use borrow.Author.Tests.{ne_eqb}
+use Rattle.std.specs.Prelude.{Some, Ok}
 use Rattle.event.specs.declared.Event.{Event}
 use Rattle.event.specs.Slots.{no_event}
 use Rattle.dependence.specs.Dependence.{dependent}
 use Rattle.enumeration.proofs.OrderLists.{order_sized}
 use Rattle.order_rows.specs.Rows.{order_places, order_row}
-use Rattle.orders_log.specs.declared.GivenRow.{GivenRow}
-use Rattle.orders_log.specs.OrderCalls.{IsOrder, order, given_of}
-use Rattle.orders_log.proofs.Rising.{first_row_sized}
-use Rattle.orders_text.specs.OrdersText.{numbers_before_zero, line_from, giving_line, given_line, Begins, long, short}
+use Rattle.orders_log.specs.OrderCalls.{IsOrder, order}
+use Rattle.orders_text.specs.OrdersText.{numbers_before_zero, line_from, giving_line, given_line}
 
 -- a list without its first number, one place on
 shifted : (x : ℕ) (row : List ℕ) (i m : ℕ) → numbers_before_zero (x ∷ row) (suc i) m ≡ numbers_before_zero row i m
@@ -35,13 +34,8 @@ numbers_in_lem (x ∷ o) m h =
     rw (e, n) (ap (λ ks. x ∷ ks) (shifted x (o ++ replicate m 0) 0 (length o + m) ∙ numbers_in_lem o m (λ k i. h k (tail i))))
 
 -- "every order, first to last, one a line: event numbers with a space between them"
-pub order_line_lem : (es : List Event) (o : List ℕ) → length es ≤ order_places → IsOrder es o → given_line (given_of (order o)) ≡ giving_line (order o)
+pub order_line_lem : (es : List Event) (o : List ℕ) → length es ≤ order_places → IsOrder es o → given_line (Ok (Some (order_row o))) ≡ giving_line (order o)
 order_line_lem es o few h =
     let s = order_sized no_event dependent es o h in
     let e : length o + (order_places - length o) ≡ order_places = let n = s.0 in omega arith in
     ap (line_from 0) (sym (ap (numbers_before_zero (order_row o) 0) e) ∙ numbers_in_lem o (order_places - length o) (λ k m. (s.1 k m).0))
-
--- the row that follows what is printed first has eight places
-pub begun_sized : {log text : List ℕ} {r : GivenRow} → Begins log text r → length r.row ≡ order_places
-begun_sized (long l) = refl
-begun_sized (short l g) = first_row_sized g

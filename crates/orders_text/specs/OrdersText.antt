@@ -1,13 +1,13 @@
 -- What the program `orders` prints: "every order, first to last, one a line: event numbers with a space between them; the empty log's one order is an empty
 -- line". "A refusal is `refused K at B`". "Each line ends in a line feed."
-use Rattle.std.specs.Prelude.{ℕ, zero, suc, ◌<◌, ◌≤◌, cond, List, [], ◌∷◌, ◌++◌, eqb, length, get_or}
+use Rattle.std.specs.Prelude.{ℕ, zero, suc, ◌<◌, ◌≤◌, cond, List, [], ◌∷◌, ◌++◌, eqb, length, get_or, Option as Maybe, Some, None, Result, Ok, Err}
+use Rattle.event.specs.Refusals.{refusal_number}
 use Rattle.page.specs.Text.{ascii, decimal}
 use Rattle.page.specs.Lines.{longest, refusal_line, too_long_line}
 use Rattle.order_rows.specs.Rows.{order_places}
-use Rattle.orders_log.specs.declared.Given.{Given}
-use Rattle.orders_log.specs.declared.Given.TheVariants as case
-use Rattle.orders_log.specs.declared.GivenRow.{GivenRow}
-use Rattle.orders_log.specs.OrderCalls.{Giving, order, last, log_refused, orders_refused, given_of, FirstGives, GivesSo}
+use Rattle.orders_log.specs.declared.OrdersRefusal.{OrdersRefusal}
+use Rattle.orders_log.specs.declared.OrdersRefusal.TheVariants as case
+use Rattle.orders_log.specs.OrderCalls.{Giving, order, last, log_refused, orders_refused, FirstGives, GivesSo}
 
 -- "event numbers with a space between them": the number at a place, counted from 0, with a space before it where it is not the first
 abbrev pub at_place : ℕ → ℕ → List ℕ
@@ -34,17 +34,14 @@ unfoldable pub numbers_before_zero : List ℕ → ℕ → ℕ → List ℕ
 numbers_before_zero row i zero = []
 numbers_before_zero row i (suc m) = cond (eqb (get_or row i 0) 0) [] (get_or row i 0 ∷ numbers_before_zero row (suc i) m)
 
-abbrev pub case_line : Given → List ℕ → List ℕ
-case_line case.Order row = order_line (numbers_before_zero row 0 order_places)
-case_line case.Last row = []
-case_line (case.LogRefused k o) row = refusal_line k o
-case_line (case.OrdersRefused k o) row = refusal_line k o
-
-abbrev pub given_line : GivenRow → List ℕ
-given_line r = case_line r.given r.row
+abbrev pub given_line : Result (Maybe (List ℕ)) OrdersRefusal → List ℕ
+given_line (Ok (Some row)) = order_line (numbers_before_zero row 0 order_places)
+given_line (Ok None) = []
+given_line (Err (case.Log r)) = refusal_line (refusal_number r.reason) r.offset
+given_line (Err (case.Orders r)) = refusal_line (refusal_number r.reason) r.offset
 
 -- "if one that the program reads is longer, it prints `too long` alone"; else what is printed first is the line of what the first call gives. A log, the text, and
 -- what follows: where it is an order, a line for each call after it
-pub data Begins (log : List ℕ) : List ℕ → GivenRow → Type 0 where
-  long : longest < length log → Begins log too_long_line (given_of last)
-  short : {r : GivenRow} → length log ≤ longest → GivesSo (FirstGives log) r → Begins log (given_line r) r
+pub data Begins (log : List ℕ) : List ℕ → Result (Maybe (List ℕ)) OrdersRefusal → Type 0 where
+  long : longest < length log → Begins log too_long_line (Ok None)
+  short : {r : Result (Maybe (List ℕ)) OrdersRefusal} → length log ≤ longest → GivesSo (FirstGives log) r → Begins log (given_line r) r

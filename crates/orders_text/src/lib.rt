@@ -1,22 +1,21 @@
 // What the program `orders` prints, as text in a lent buffer: a line for each order that is given, or why there is none.
 #![tactic(auto)]
 
-ghost use Rattle.std.specs.Prelude.{◌≡◌, List, ℕ};
-ghost use Rattle.page.specs.Lines.{too_long_line};
+ghost use Rattle.std.specs.Prelude.{◌≡◌, List, ℕ, length};
 ghost use Rattle.page.specs.Page.{empty_page, onto, PutIn};
 ghost use Rattle.order_rows.specs.Rows.{order_places};
-ghost use Rattle.orders_text.specs.OrdersText.{at_place, order_line, numbers_before_zero, case_line, given_line, Begins};
+ghost use Rattle.orders_text.specs.OrdersText.{at_place, order_line, numbers_before_zero, given_line, Begins};
 
+use event::refusal::Refused;
 use order_rows::PLACES;
-use orders_log::{Given, GivenRow};
+use orders_log::{Given, OrdersRefusal};
 use page::Page;
-use writer::Written;
 
 // The text of the first call, and what it gave.
 #[derive(Clone, Copy)]
 pub struct Begun {
-    pub written: Written,
-    pub given: GivenRow,
+    pub written: Result<usize, Refused>,
+    pub given: Given,
 }
 
 // Writes what is printed first for a log at the start of a lent buffer. Nothing follows where the log is too long.
@@ -24,58 +23,47 @@ pub fn begin(log: &[u8], buffer: &mut [u8]) -> Begun
     ensures { PutIn (λ (text : List ℕ). Begins log.now text result.given) buffer.old buffer.new result.written }
 {
     if page::LONGEST < log.len() {
-        let given = orders_log::no_row(Given::Last);
-        let written = write_too_long(buffer);
-        return Begun { written, given };
+        let written = page::empty().too_long().put(buffer);
+        return Begun {
+            written,
+            given: Ok(None),
+        };
     }
     let given = orders_log::first(log);
     let written = write(given, buffer);
     Begun { written, given }
 }
 
-fn write_too_long(buffer: &mut [u8]) -> Written
-    ensures { PutIn (λ (text : List ℕ). text ≡ too_long_line) buffer.old buffer.new result }
-{
-    let p = page::empty();
-    let page = p.too_long();
-    page.put(buffer)
-}
-
 // Writes the line of what a call gave at the start of a lent buffer; no byte after the last order.
-pub fn write(r: GivenRow, buffer: &mut [u8]) -> Written
-    ensures { PutIn (λ (text : List ℕ). text ≡ given_line r) buffer.old buffer.new result }
+pub fn write(given: Given, buffer: &mut [u8]) -> Result<usize, Refused>
+    ensures { PutIn (λ (text : List ℕ). text ≡ given_line given) buffer.old buffer.new result }
 {
-    let given = r.given;
-    let row = r.row;
-    let page = line(given, row);
-    page.put(buffer)
+    line(given).put(buffer)
 }
 
-fn line(given: Given, row: [u8; PLACES]) -> Page
-    ensures { result ≡ onto empty_page (case_line given row) }
+#[tactic(auto, using(page::proofs::Onto::onto_none))]
+fn line(given: Given) -> Page
+    ensures { result ≡ onto empty_page (given_line given) }
 {
-    let p = page::empty();
     match given {
-        Given::Order => row_line(p, row),
-        Given::Last => p,
-        Given::LogRefused { number, offset } => p.refusal(number, offset),
-        Given::OrdersRefused { number, offset } => p.refusal(number, offset),
+        Ok(Some(row)) => row_line(&row),
+        Ok(None) => page::empty(),
+        Err(OrdersRefusal::Log(r) | OrdersRefusal::Orders(r)) => page::empty().refusal(r),
     }
 }
 
 // The numbers up to the first 0.
-fn row_line(p: Page, row: [u8; PLACES]) -> Page
-    ensures { result ≡ onto p (order_line (numbers_before_zero row 0 order_places)) }
+fn row_line(row: &[u8; PLACES]) -> Page
+    ensures { result ≡ onto empty_page (order_line (numbers_before_zero row.now 0 order_places)) }
 {
-    let mut q = p;
-    for i in 0..PLACES {
-        let k = row[i];
-        if k == 0 {
-            return q.text(b"\n");
+    let mut p = page::empty();
+    for (i, k) in row.iter().enumerate() {
+        if *k == 0 {
+            break;
         }
-        q = number(q, i, k);
+        p = number(p, i, *k);
     }
-    q.text(b"\n")
+    p.text(b"\n")
 }
 
 // The number at a place, with a space before it where it is not the first.

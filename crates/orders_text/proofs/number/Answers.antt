@@ -1,4 +1,3 @@
-use borrow.Author.Rules.{rules}
 use Rattle.orders_text.proofs.Lines.{first_place, later_place}
 use Rattle.orders_text.proofs.number.Goals as goal
 
