@@ -8,7 +8,7 @@ use Rattle.event.specs.declared.Event.{Event}
 use Rattle.trace.specs.First.{Smaller}
 use Rattle.event_log.specs.Whole.{read_log, accepted}
 use Rattle.order_rows.specs.Rows.{order_places, order_row}
-use Rattle.orders_log.specs.OrderCalls.{IsOrder, Giving, order, last, log_refused, orders_refused, NextGives, SaysSo, Called, first_call, next_call, GivesEveryOrder}
+use Rattle.orders_log.specs.OrderCalls.{Giving, order, last, log_refused, orders_refused, NextGives, SaysSo, Called, first_call, next_call, GivesEveryOrder}
 use Rattle.orders_log.proofs.EveryOrder.{row_one, every_order}
 use Rattle.orders_log.proofs.Rising.{row_rises}
 use Rattle.bilguzor_orders.specs.declared.OrderRow.{OrderRow}

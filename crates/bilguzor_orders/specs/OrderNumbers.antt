@@ -3,8 +3,6 @@ use Rattle.std.specs.Prelude.{ℕ, zero, suc, ◌<◌, ◌≡◌, List, replicat
 use Rattle.event.specs.declared.Event.{Event}
 use Rattle.trace.specs.First.{Smaller}
 use Rattle.order_rows.specs.Rows.{order_places, order_row}
-use Rattle.orders_log.specs.declared.Given.{Given}
-use Rattle.orders_log.specs.declared.Given.TheVariants as case
 use Rattle.orders_log.specs.OrderCalls.{IsOrder, Giving, order, last, log_refused, orders_refused, IsRow, FirstGives, NextGives, SaysSo}
 use Rattle.bilguzor_orders.specs.declared.OrderRow.{OrderRow}
 
@@ -15,12 +13,12 @@ order_numbers last = record { kind = 10; number = 0; events = replicate order_pl
 order_numbers (log_refused k o) = record { kind = 3; number = k; events = replicate order_places 0; offset = o }
 order_numbers (orders_refused k o) = record { kind = 4; number = k; events = replicate order_places 0; offset = o }
 
--- the same by the case of an answer, and its row
-abbrev pub case_numbers : Given → List ℕ → OrderRow
-case_numbers case.Order row = record { kind = 9; number = 0; events = row; offset = 0 }
-case_numbers case.Last row = record { kind = 10; number = 0; events = row; offset = 0 }
-case_numbers (case.LogRefused k o) row = record { kind = 3; number = k; events = row; offset = o }
-case_numbers (case.OrdersRefused k o) row = record { kind = 4; number = k; events = row; offset = o }
+-- the same of what an answer gives, an order by its row
+abbrev pub numbers_given : Giving → OrderRow
+numbers_given (order row) = record { kind = 9; number = 0; events = row; offset = 0 }
+numbers_given last = record { kind = 10; number = 0; events = replicate order_places 0; offset = 0 }
+numbers_given (log_refused k o) = record { kind = 3; number = k; events = replicate order_places 0; offset = o }
+numbers_given (orders_refused k o) = record { kind = 4; number = k; events = replicate order_places 0; offset = o }
 
 -- ---- all of them
 

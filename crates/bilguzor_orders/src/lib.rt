@@ -2,12 +2,15 @@
 // were not there.
 #![tactic(auto)]
 
-ghost use Rattle.std.specs.Prelude.{◌≡◌};
-ghost use Rattle.orders_log.specs.OrderCalls.{FirstGives, NextGives, SaysSo};
-ghost use Rattle.bilguzor_orders.specs.OrderNumbers.{order_numbers, case_numbers};
+ghost use Rattle.std.specs.Prelude.{◌≡◌, replicate};
+ghost use Rattle.event.specs.Refusals.{refusal_number};
+ghost use Rattle.order_rows.specs.Rows.{order_places};
+ghost use Rattle.orders_log.specs.OrderCalls.{FirstGives, NextGives, given_is, SaysSo};
+ghost use Rattle.bilguzor_orders.specs.OrderNumbers.{order_numbers, numbers_given};
 
+use event::refusal::Refused;
 use order_rows::PLACES;
-use orders_log::Given;
+use orders_log::{Given, OrdersRefusal};
 
 // The kinds of an answer: what is refused, as in `bilguzor`; an order; that the given one was the last.
 pub const LOG_REFUSED: u8 = 3;
@@ -33,10 +36,7 @@ pub struct OrderRow {
 pub extern "C" fn bilguzor_first_order(log: &[u8]) -> OrderRow
     ensures { SaysSo order_numbers (FirstGives log.now) result }
 {
-    let r = orders_log::first(log);
-    let given = r.given;
-    let row = r.row;
-    numbers_of(given, row)
+    numbers_of(orders_log::first(log))
 }
 
 // The order of the log after a given one, which has eight places, 0 beyond the log's events.
@@ -44,39 +44,38 @@ pub extern "C" fn bilguzor_first_order(log: &[u8]) -> OrderRow
 pub extern "C" fn bilguzor_next_order(log: &[u8], order: &[u8]) -> OrderRow
     ensures { SaysSo order_numbers (NextGives log.now order.now) result }
 {
-    let r = orders_log::next(log, order);
-    let given = r.given;
-    let row = r.row;
-    numbers_of(given, row)
+    numbers_of(orders_log::next(log, order))
 }
 
-fn numbers_of(given: Given, events: [u8; PLACES]) -> OrderRow
-    ensures { result ≡ case_numbers given events }
+fn numbers_of(given: Given) -> OrderRow
+    ensures { result ≡ numbers_given (given_is given) }
 {
     match given {
-        Given::Order => OrderRow {
+        Ok(Some(events)) => OrderRow {
             kind: ORDER,
             number: 0,
             events,
             offset: 0,
         },
-        Given::Last => OrderRow {
+        Ok(None) => OrderRow {
             kind: LAST,
             number: 0,
-            events,
+            events: [0; PLACES],
             offset: 0,
         },
-        Given::LogRefused { number, offset } => OrderRow {
-            kind: LOG_REFUSED,
-            number,
-            events,
-            offset,
-        },
-        Given::OrdersRefused { number, offset } => OrderRow {
-            kind: QUERY_REFUSED,
-            number,
-            events,
-            offset,
-        },
+        Err(OrdersRefusal::Log(r)) => refused(LOG_REFUSED, r),
+        Err(OrdersRefusal::Orders(r)) => refused(QUERY_REFUSED, r),
+    }
+}
+
+// A refusal, of the log or of what is asked; other fields 0.
+fn refused(kind: u8, r: Refused) -> OrderRow
+    ensures { result ≡ record { kind = kind; number = refusal_number r.reason; events = replicate order_places 0; offset = r.offset } }
+{
+    OrderRow {
+        kind,
+        number: r.reason.number(),
+        events: [0; PLACES],
+        offset: r.offset,
     }
 }

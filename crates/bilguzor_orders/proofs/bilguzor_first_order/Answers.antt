@@ -1,6 +1,5 @@
-use borrow.Author.Rules.{rules}
 use Rattle.bilguzor_orders.proofs.Numbers.{said_in_numbers}
 use Rattle.bilguzor_orders.proofs.bilguzor_first_order.Goals as goal
 
 pub returns : goal.returns
-returns c = said_in_numbers c.first-r.ensures.gives c.numbers_of.ensures
+returns c = said_in_numbers _ c.first.ensures c.numbers_of.ensures
