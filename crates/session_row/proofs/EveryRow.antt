@@ -17,7 +17,7 @@ use Rattle.session.specs.History.{refusals, refusals_under, EveryHistory}
 use Rattle.session.proofs.Described.{handed_described}
 use Rattle.session.proofs.Demand.{every_history}
 use Rattle.trace.specs.Match.{Each, none, more}
-use Rattle.session_row.specs.Row.{most, numbers_over, Alone, row_after, alone_with}
+use Rattle.session_row.specs.Row.{most, numbers_over, Alone, alone_with}
 use Rattle.session_row.specs.RowHistory.{row_after_all, row_numbers_all, EachOpened, sessions_of, EveryRow}
 
 -- ---- any sessions, any events

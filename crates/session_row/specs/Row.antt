@@ -1,14 +1,15 @@
 -- Note 6: a row of sessions and one event: what each session ends as, and what the call answers, for every row.
-use Rattle.std.specs.Prelude.{ℕ, zero, suc, ◌+◌, ◌≡◌, cond, List, [], ◌∷◌, ◌++◌, map, eqb, leb, length, take, drop}
+use Rattle.std.specs.Prelude.{ℕ, zero, suc, ◌+◌, ◌≡◌, cond, List, [], ◌∷◌, ◌++◌, map, eqb, leb, length, take, drop, Option, Some, None, Result, Ok, Err}
 use Rattle.event.specs.declared.Event.{Event}
+use Rattle.event.specs.declared.refusal.Refusal.{Refusal}
+use Rattle.event.specs.Refusals.{refusal_number, number_given, reason_of}
 use Rattle.session.specs.declared.Session.{Session}
 use Rattle.session.specs.Answers.{answer_is}
 use Rattle.session.specs.Model.{handed}
-use Rattle.session_row.specs.declared.RowAnswer.{RowAnswer}
-use Rattle.session_row.specs.declared.RowAnswer.TheVariants.{Taken, Refused, TooLong}
 use Rattle.session_row.specs.declared.RowHanded.{RowHanded}
-use Rattle.session_row.specs.declared.Tally.{Tally}
-use Rattle.session_row.specs.declared.Turned.{Turned}
+use Rattle.session_row.specs.declared.RowRefusal.{RowRefusal}
+use Rattle.session_row.specs.declared.RowRefusal.TheVariants.{TooLong, Refused}
+use Rattle.session_row.specs.declared.RowRefused.{RowRefused}
 
 -- "a lent row of 0 to 16 sessions"
 abbrev pub most : ℕ
@@ -76,24 +77,34 @@ pub record RowTaken {K : Type 0} (alone : K → Alone K) (row : List K) (r : Row
   pub numbers : r ≡ row_numbers alone row
   pub sessions : after ≡ row_after alone row
 
+-- the numbers that each case of an answer stands for, and the case that stands for some numbers
+abbrev pub refused_numbers : RowRefused → RowNumbers
+refused_numbers r = record { number = refusal_number r.reason; offset = 0; count = r.count; place = r.place }
+
+abbrev pub row_answer_is : Result Unit RowRefusal → RowNumbers
+row_answer_is (Ok u) = record { number = 0; offset = 0; count = 0; place = 0 }
+row_answer_is (Err TooLong) = too_many
+row_answer_is (Err (Refused r)) = refused_numbers r
+
+abbrev pub row_answer_by : RowNumbers → Result Unit RowRefusal
+row_answer_by n =
+    cond (eqb n.number 0) (Ok tt)
+    (cond (eqb n.count 0) (Err TooLong) (Err (Refused (record { count = n.count; place = n.place; reason = reason_of n.number }))))
+
+-- the same by the answer of a call
+pub record RowAnswered {K : Type 0} (alone : K → Alone K) (row : List K) (r : Result Unit RowRefusal) (after : List K) : Type 0 where
+  pub taken : RowTaken alone row (row_answer_is r) after
+  pub exact : r ≡ row_answer_by (row_numbers alone row)
+
+-- `gives` says what may come of handing a session over: with s, what it would be alone
+abbrev pub HandsAs : {K : Type 0} → (K → Result Unit Refusal × K → Type 0) → (K → Alone K) → K → Type 0
+HandsAs {K} gives alone s = (r : Result Unit Refusal × K) → gives s r → (number_given r.0 ≡ (alone s).number) × (r.1 ≡ (alone s).after)
+
 -- ---- sessions held by value
 
 -- what taking an event makes of a session
 abbrev pub alone_with : Event → Session → Alone Session
 alone_with e s = record { number = (answer_is (handed s e).answer).number; after = (handed s e).session }
-
--- the numbers that each case of an answer stands for, and the case that stands for some numbers
-abbrev pub row_answer_is : RowAnswer → RowNumbers
-row_answer_is Taken = record { number = 0; offset = 0; count = 0; place = 0 }
-row_answer_is (Refused c p k) = record { number = k; offset = 0; count = c; place = p }
-row_answer_is TooLong = too_many
-
-abbrev pub row_answer_by : RowNumbers → RowAnswer
-row_answer_by n = cond (eqb n.number 0) Taken (cond (eqb n.count 0) TooLong (Refused n.count n.place n.number))
-
-pub record RowAnswered (alone : Session → Alone Session) (row : List Session) (r : RowAnswer) (after : List Session) : Type 0 where
-  pub taken : RowTaken alone row (row_answer_is r) after
-  pub exact : r ≡ row_answer_by (row_numbers alone row)
 
 -- the first n of some sessions as a row; the others stay as they were
 pub record FirstHanded (alone : Session → Alone Session) (before : List Session) (n : ℕ) (r : RowHanded) : Type 0 where
@@ -101,22 +112,13 @@ pub record FirstHanded (alone : Session → Alone Session) (before : List Sessio
   pub answered : RowAnswered alone (take n before) r.answer row
   pub sessions : r.sessions ≡ row ++ drop n before
 
--- ---- the tally that a call keeps
+-- ---- the refusals so far that a call keeps
 
-abbrev pub nothing_yet : Tally
-nothing_yet = record { count = 0; place = 0; number = 0 }
+abbrev pub how_many_in : Option RowRefused → ℕ
+how_many_in None = 0
+how_many_in (Some r) = r.count
 
--- one more answer, that of the session at index i
-unfoldable pub tally_with : Tally → ℕ → ℕ → Tally
-tally_with t k i =
-    cond (eqb k 0) t
-    (cond (eqb t.count 0)
-    (record { count = 1; place = i + 1; number = k })
-    (record { count = t.count + 1; place = t.place; number = t.number }))
-
--- the turn of the session s at index i
-unfoldable pub turned : (Session → Alone Session) → Tally → Session → ℕ → Turned
-turned alone t s i = record { tally = tally_with t (alone s).number i; session = (alone s).after }
-
-abbrev pub answer_of : Tally → RowAnswer
-answer_of t = cond (eqb t.count 0) Taken (Refused t.count t.place t.number)
+-- one more, of the session at index i
+abbrev pub one_refused : Option RowRefused → ℕ → Refusal → RowRefused
+one_refused None i k = record { count = 1; place = i + 1; reason = k }
+one_refused (Some r) i k = record { count = r.count + 1; place = r.place; reason = r.reason }

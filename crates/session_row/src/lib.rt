@@ -1,12 +1,14 @@
 // Many patterns in one pass: one event for each session of a lent row.
 #![tactic(auto)]
 
-ghost use Rattle.std.specs.Prelude.{◌≡◌, ◌<◌, ◌≤◌};
-ghost use Rattle.session.specs.Answers.{answer_is};
-ghost use Rattle.session_row.specs.Row.{most, places, alone_with, tally_with, turned, answer_of, RowAnswered, FirstHanded};
+ghost use Rattle.std.specs.Prelude.{◌≡◌, ◌<◌, ◌≤◌, Some};
+ghost use Rattle.std.specs.List.{All};
+ghost use Rattle.event.specs.Refusals.{number_given};
+ghost use Rattle.session_row.specs.Row.{most, places, Alone, alone_with, HandsAs, how_many_in, one_refused, RowAnswered, FirstHanded};
 
 use event::Event;
-use session::{Answer, Session};
+use event::refusal::Refusal;
+use session::Session;
 
 // The longest row that a call takes.
 pub const MOST: usize = 16;
@@ -14,130 +16,86 @@ pub const MOST: usize = 16;
 // One place more: room for a row that is too long.
 pub const PLACES: usize = MOST + 1;
 
-// What became of the event in the row: how many sessions refused it, the lowest place, from 1, that did, and the number of its refusal.
+// Why not every session of a row took what it was handed: the row is too long, and none had its turn; or some refused.
 #[derive(Clone, Copy)]
-pub enum RowAnswer {
-    Taken,
-    Refused {
-        count: usize,
-        place: usize,
-        number: u8,
-    },
+pub enum RowRefusal {
     TooLong,
+    Refused(RowRefused),
 }
 
-// The sessions so far that refused; all 0 with none.
+// How many sessions of a row refused, the lowest place, from 1, that did, and the reason of its refusal.
 #[derive(Clone, Copy)]
-pub struct Tally {
+pub struct RowRefused {
     pub count: usize,
     pub place: usize,
-    pub number: u8,
-}
-
-// The tally after the turn of one session, and that session.
-#[derive(Clone, Copy)]
-pub struct Turned {
-    pub tally: Tally,
-    pub session: Session,
+    pub reason: Refusal,
 }
 
 // Sessions held by value, beside what became of the event in a row of the first of them.
 #[derive(Clone, Copy)]
 pub struct RowHanded {
-    pub answer: RowAnswer,
+    pub answer: Result<(), RowRefusal>,
     pub sessions: [Session; PLACES],
 }
 
 // Hands one event to each session of a row, in row order. One that refuses stays as it was, and the others go on.
-pub fn take_all(row: &mut [Session], e: Event) -> RowAnswer
+pub fn take_all(row: &mut [Session], e: Event) -> Result<(), RowRefusal>
     ensures { RowAnswered (alone_with e) row.old result row.new }
 {
-    let n = row.len();
-    if n > MOST {
-        return too_long();
-    }
-    let mut tally = Tally {
-        count: 0,
-        place: 0,
-        number: 0,
-    };
-    let mut i = 0;
-    while i < n {
-        let t = turn(tally, row[i], e, i);
-        row[i] = t.session;
-        tally = t.tally;
-        i = i + 1;
-    }
-    answer_of(tally)
+    each_in_turn(row, |s| hand(s, e))
 }
 
-// The turn of one session, that of the row's place i + 1.
-fn turn(tally: Tally, s: Session, e: Event, i: usize) -> Turned
-    requires { (i < most) × (tally.count ≤ i) }
-    ensures { result ≡ turned (alone_with e) tally s i }
+// What taking one event makes of a session.
+fn hand(s: Session, e: Event) -> (Result<(), Refusal>, Session)
+    ensures { (number_given result.0 ≡ (alone_with e s).number) × (result.1 ≡ (alone_with e s).after) }
 {
-    let h = s.take(e);
-    let answer = h.answer;
-    let session = h.session;
-    let number = number_of(answer);
-    let next = tell(tally, number, i);
-    Turned {
-        tally: next,
-        session,
-    }
+    let handed = s.take(e);
+    let session = handed.session;
+    (handed.answer.map_err(|refused| refused.reason), session)
 }
 
-// The number of a refusal, or 0 where the event is taken.
-fn number_of(answer: Answer) -> u8
-    ensures { result ≡ (answer_is answer).number }
+// Gives each session of a row its turn, in row order, by value: `hand` says whether it refuses, and what it is then. Sessions of any kind.
+pub fn each_in_turn<S: Copy, F: Fn(S) -> (Result<(), Refusal>, S)>(
+    row: &mut [S],
+    hand: F,
+) -> Result<(), RowRefusal>
+    requires { F.IsAlwaysCallable hand }
+    ensures { (alone : S → Alone S) → All (HandsAs (F.post hand) alone) row.old → RowAnswered alone row.old result row.new }
 {
-    match answer {
-        Answer::Taken => 0,
-        Answer::Refused { number, offset: _ } => number,
+    if row.len() > MOST {
+        return Err(RowRefusal::TooLong);
+    }
+    let mut refused: Option<RowRefused> = None;
+    for i in 0..row.len() {
+        let (answer, session) = hand(row[i]);
+        row[i] = session;
+        if let Err(reason) = answer {
+            refused = Some(one_refused(refused, i, reason));
+        }
+    }
+    match refused {
+        None => Ok(()),
+        Some(refused) => Err(RowRefusal::Refused(refused)),
     }
 }
 
-// The tally with one more answer, that of the row's place i + 1.
-pub fn tell(tally: Tally, number: u8, i: usize) -> Tally
-    requires { (i < most) × (tally.count ≤ i) }
-    ensures { result ≡ tally_with tally number i }
+// Those that refused, with one more, at the row's place i + 1.
+fn one_refused(refused: Option<RowRefused>, i: usize, reason: Refusal) -> RowRefused
+    requires { (i < most) × (how_many_in refused ≤ i) }
+    ensures { result ≡ one_refused refused i reason }
 {
-    if number == 0 {
-        return tally;
-    }
-    let here = i + 1;
-    if tally.count == 0 {
-        return Tally {
+    match refused {
+        None => RowRefused {
             count: 1,
-            place: here,
-            number,
-        };
+            place: i + 1,
+            reason,
+        },
+        Some(first) => RowRefused {
+            count: first.count + 1,
+            place: first.place,
+            reason: first.reason,
+        },
     }
-    Tally {
-        count: tally.count + 1,
-        place: tally.place,
-        number: tally.number,
-    }
-}
-
-// The answer that a tally of the whole row stands for.
-pub fn answer_of(t: Tally) -> RowAnswer
-    ensures { result ≡ answer_of t }
-{
-    if t.count == 0 {
-        return RowAnswer::Taken;
-    }
-    RowAnswer::Refused {
-        count: t.count,
-        place: t.place,
-        number: t.number,
-    }
-}
-
-pub fn too_long() -> RowAnswer
-    ensures { result ≡ RowAnswer.TooLong }
-{
-    RowAnswer::TooLong
 }
 
 // Lends the first n of some sessions held by value as a row, for one event.
