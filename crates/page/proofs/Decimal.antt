@@ -1,27 +1,21 @@
--- A number's figures, the last one apart; how many bytes they are.
-use Prim.Native.Nat.{ℕ, zero, suc, ◌+◌, ◌-◌, ◌/◌, ◌%◌, ◌<◌, ◌≤◌}
+-- A number's figures: the library prints the same, and how many bytes they are.
+use Prim.Native.Nat.{ℕ, zero, suc, ◌^◌, ◌/◌, ◌<◌, ◌≤◌}
 use native.Mathlib.Omega.{arith}
-use mathlib.Core.Path.{◌≡◌, refl}
-use mathlib.Core.List.{[], ◌∷◌, ◌++◌}
+use mathlib.Core.Path.{◌≡◌, refl, sym}
 use lib.Dec.{ltb}
 use lib.ListN.{length, length-append}
 use borrow.Author.Tests.{lt-ltb, le-ltb}
+use Rattle.std.proofs.lemmas.Fmt.{AppendsLastDigit, decimal_from_appends, length-decimal-le}
+use Rattle.std.specs.Prelude.{decimal as printed}
 use Rattle.event.proofs.Tests.{by_test}
-use Rattle.page.specs.Text.{figures}
+use Rattle.page.specs.Text.{figures, decimal}
 
-pub no_figure : (left n : ℕ) → left ≡ 0 → [] ≡ figures left n
+figure_by_figure : AppendsLastDigit figures
 unfolding figures
-no_figure left n z = rw z refl
+figure_by_figure = record { one = λ k n h. rw (lt-ltb n 10 h) refl; more = λ k n h. rw (le-ltb n 10 h) refl }
 
-pub last_figure : (left n : ℕ) → (left ≡ 0 → ⊥) → n < 10 → ((48 + n) ∷ []) ≡ figures left n
-unfolding figures
-last_figure zero n z h = absurd (z refl)
-last_figure (suc left) n z h = rw (lt-ltb n 10 h) refl
-
-pub more_figures : (left n : ℕ) → (left ≡ 0 → ⊥) → 10 ≤ n → figures (left - 1) (n / 10) ++ ((48 + n % 10) ∷ []) ≡ figures left n
-unfolding figures
-more_figures zero n z h = absurd (z refl)
-more_figures (suc left) n z h = let e : suc left - 1 ≡ left = omega arith in rw (le-ltb n 10 h, e) refl
+pub as_printed : (n : ℕ) → n < 2 ^ 64 → printed n ≡ decimal n
+as_printed n h = sym (decimal_from_appends figures figure_by_figure 20 n h (length-decimal-le 20 n (omega arith) (omega arith) h))
 
 pub few_figures : (left n : ℕ) → length (figures left n) ≤ left
 unfolding figures

@@ -4,7 +4,7 @@
 ghost use Rattle.std.specs.Prelude.{◌≡◌};
 ghost use Rattle.event.specs.Refusals.{refusal_number};
 ghost use Rattle.writer.specs.Writing.{written_is, writing, buffer_after};
-ghost use Rattle.page.specs.Text.{figures as figures_of, decimal};
+ghost use Rattle.page.specs.Text.{decimal};
 ghost use Rattle.page.specs.Lines.{refusal_line, too_long_line};
 ghost use Rattle.page.specs.Page.{empty_page, with, onto, held};
 
@@ -58,10 +58,12 @@ impl Page {
         p
     }
 
+    #[tactic(auto, using(crate::proofs::Decimal::as_printed))]
     pub fn number(self, n: usize) -> Page
         ensures { result ≡ onto self (decimal n) }
     {
-        figures(self, n, 20)
+        let mut figures = itoa::Buffer::new();
+        self.text(figures.format(n).as_bytes())
     }
 
     // Words, then a number.
@@ -94,18 +96,4 @@ impl Page {
     {
         writer::put(buffer, 0, &self.bytes[..self.size.min(ROOM)])
     }
-}
-
-// The figures of n in decimal, so many at most.
-fn figures(p: Page, n: usize, left: usize) -> Page
-    ensures { result ≡ onto p (figures_of left n) }
-{
-    if left == 0 {
-        return p;
-    }
-    if n < 10 {
-        return p.byte(48 + n as u8);
-    }
-    let q = figures(p, n / 10, left - 1);
-    q.byte(48 + (n % 10) as u8)
 }
