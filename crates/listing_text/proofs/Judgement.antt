@@ -16,16 +16,17 @@ use Rattle.trace.specs.Match.{Each, none, more}
 use Rattle.trace.specs.Tuples.{Among}
 use Rattle.trace.proofs.Numbers.{numbered_among}
 use Rattle.dependence.specs.Order.{HasMatch}
-use Rattle.run.specs.declared.Judged.{Judged}
-use Rattle.run.specs.declared.Outcome.{Outcome}
-use Rattle.run.specs.declared.Outcome.TheVariants.{Match, None, PatternRefused, LogRefused}
-use Rattle.session.specs.Answers.{Refused, nothing, Given}
-use Rattle.run.specs.Answers.{outcome_is, judged_is}
+use Rattle.std.specs.Prelude.{Option, Some, None, Result, Ok, Err}
+use Rattle.session.specs.declared.Verdict.{Verdict}
+use Rattle.run.specs.declared.RunRefusal.{RunRefusal}
+use Rattle.run.specs.declared.RunRefusal.TheVariants.{Pattern, Log}
+use Rattle.session.specs.Answers.{Refused, nothing, Given, refusal, found_is}
+use Rattle.run.specs.Answers.{judged_is}
 use Rattle.session.specs.Meaning.{RunOf, pattern_refused, over_log, log_refused, judged}
 use Rattle.event.proofs.Tests.{by_test}
 use Rattle.page.specs.Lines.{refusal_line}
 use Rattle.listing_text.specs.Text.{slot_line, pattern_refusal_line, no_match_line, match_line}
-use Rattle.listing_text.specs.OutcomeText.{lines_of, text_of}
+use Rattle.listing_text.specs.OutcomeText.{lines_of, found_text, text_of}
 use Rattle.listing_text.specs.Listing as listing
 use Rattle.listing_text.specs.Listing.{SlotLines}
 use Rattle.listing_text.proofs.SlotLines.{no_line, a_line}
@@ -63,12 +64,17 @@ given_text bytes g =
     (pattern_refusal_line g.refusal.number g.refusal.offset)
     (refusal_line g.refusal.number g.refusal.offset)
 
-text_is : (bytes : List ℕ) (o : Outcome) (numbers : List ℕ) → given_text bytes (outcome_is o numbers) ≡ text_of bytes o numbers
+found_is_text : (bytes : List ℕ) (f : Option ℕ) (numbers : List ℕ)
+    → given_text bytes (record { refused = nothing; refusal = refusal 0 0; ruling = found_is f numbers }) ≡ found_text bytes f numbers
 unfolding given_text by_refused
-text_is bytes (Match n) numbers = refl
-text_is bytes None numbers = refl
-text_is bytes (PatternRefused k o) numbers = refl
-text_is bytes (LogRefused k o) numbers = refl
+found_is_text bytes (Some n) numbers = refl
+found_is_text bytes None numbers = refl
+
+text_is : (bytes : List ℕ) (r : Result Verdict RunRefusal) → given_text bytes (judged_is r) ≡ text_of bytes r
+unfolding given_text by_refused
+text_is bytes (Ok v) = found_is_text bytes v.found v.numbers
+text_is bytes (Err (Pattern r)) = refl
+text_is bytes (Err (Log r)) = refl
 
 given_listed : (pattern bytes : List ℕ) (g : Given) → RunOf pattern bytes g → listing.Judged pattern bytes (given_text bytes g)
 unfolding given_text by_refused
@@ -85,5 +91,5 @@ given_listed pattern bytes g (over_log {ss = ss} a (judged {es = es} {r = r} q v
         (lines_per_slot bytes es q ss (take (length ss) r.events) (drop (length ss) r.events) 1 (v.named h).fitting
         (get_or-drop (length ss) r.events 0 0 ∙ v.beyond (length ss + 0) (omega arith)))
 
-pub listed : (pattern bytes : List ℕ) (r : Judged) → RunOf pattern bytes (judged_is r) → listing.Judged pattern bytes (text_of bytes r.outcome r.numbers)
-listed pattern bytes r h = subst (listing.Judged pattern bytes) (text_is bytes r.outcome r.numbers) (given_listed pattern bytes (judged_is r) h)
+pub listed : (pattern bytes : List ℕ) (r : Result Verdict RunRefusal) → RunOf pattern bytes (judged_is r) → listing.Judged pattern bytes (text_of bytes r)
+listed pattern bytes r h = subst (listing.Judged pattern bytes) (text_is bytes r) (given_listed pattern bytes (judged_is r) h)

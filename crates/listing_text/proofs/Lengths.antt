@@ -11,15 +11,14 @@ use Rattle.event.specs.declared.Operation.TheVariants.{Read, Write, Acquire, Rel
 use Rattle.event.proofs.Tests.{by_test}
 use Rattle.height.specs.declared.Metres.{Metres}
 use Rattle.height.specs.Rounding.{metres_of}
-use Rattle.run.specs.declared.Outcome.{Outcome}
-use Rattle.run.specs.declared.Outcome.TheVariants.{Match, None, PatternRefused, LogRefused}
+use Rattle.std.specs.Prelude.{Option, Some, None}
 use Rattle.event_log.specs.Number.{nth_event}
 use Rattle.page.specs.Text.{ascii, decimal}
 use Rattle.page.specs.Lines.{refusal_line}
 use Rattle.page.specs.Page.{room}
 use Rattle.page.proofs.Lengths.{number, refusal}
-use Rattle.listing_text.specs.Text.{metres_text, height_text, operation_text, slot_text, slot_line}
-use Rattle.listing_text.specs.OutcomeText.{lines_of, text_of}
+use Rattle.listing_text.specs.Text.{metres_text, height_text, operation_text, slot_text, slot_line, pattern_refusal_line}
+use Rattle.listing_text.specs.OutcomeText.{lines_of, found_text}
 
 metres : (m : Metres) → length (metres_text m) ≤ 42
 metres m =
@@ -59,11 +58,16 @@ lines bytes slot (n ∷ ns) =
     let m : length (lines_of bytes (slot + 1) ns) ≤ 146 * length ns = lines bytes (slot + 1) ns in
     by_test (eqb n 0) (λ q. rw q (omega arith)) (λ q. rw q (rw length-append (omega arith)))
 
-pub fits_a_page : (bytes : List ℕ) (o : Outcome) (numbers : List ℕ) → length numbers ≤ 5 → length (text_of bytes o numbers) ≤ room
-fits_a_page bytes (Match n) numbers h =
+-- each text fits a page
+pub found_fits : (bytes : List ℕ) (f : Option ℕ) (numbers : List ℕ) → length numbers ≤ 5 → length (found_text bytes f numbers) ≤ room
+found_fits bytes (Some n) numbers h =
     let a : length (decimal n) ≤ 20 = number n in
     let b : length (lines_of bytes 1 numbers) ≤ 146 * length numbers = lines bytes 1 numbers in
     simp length-append (omega arith)
-fits_a_page bytes None numbers h = omega arith
-fits_a_page bytes (PatternRefused k o) numbers h = let r : length (refusal_line k o) ≤ 53 = refusal k o in rw length-append (omega arith)
-fits_a_page bytes (LogRefused k o) numbers h = let r : length (refusal_line k o) ≤ 53 = refusal k o in omega arith
+found_fits bytes None numbers h = omega arith
+
+pub pattern_refused_fits : (k o : ℕ) → length (pattern_refusal_line k o) ≤ room
+pattern_refused_fits k o = let r : length (refusal_line k o) ≤ 53 = refusal k o in rw length-append (omega arith)
+
+pub refused_fits : (k o : ℕ) → length (refusal_line k o) ≤ room
+refused_fits k o = let r : length (refusal_line k o) ≤ 53 = refusal k o in omega arith

@@ -1,8 +1,8 @@
 -- What the listing of a pattern and a log is, for every two byte strings.
-use Rattle.std.specs.Prelude.{ℕ, ◌+◌, ◌<◌, ◌≤◌, ◌≡◌, List, [], ◌∷◌, ◌++◌, length}
+use Rattle.std.specs.Prelude.{ℕ, ◌+◌, ◌<◌, ◌≤◌, ◌≡◌, List, [], ◌∷◌, ◌++◌, length, Result}
 use Rattle.event.specs.declared.Event.{Event}
 use Rattle.event.specs.declared.Slot.{Slot}
-use Rattle.writer.specs.declared.Written.{Written}
+use Rattle.event.specs.declared.refusal.Refused.{Refused}
 use Rattle.event_log.specs.Whole.{accepted, refused, read_log, read_pattern}
 use Rattle.trace.specs.Before.{Numbered}
 use Rattle.dependence.specs.Order.{HasMatch, IsCount, IsFirst}
@@ -32,5 +32,5 @@ pub data Listing (pattern log : List ℕ) : List ℕ → Type 0 where
   judged : {text : List ℕ} → length pattern ≤ longest → length log ≤ longest → Judged pattern log text → Listing pattern log text
 
 -- the listing written at the start of a lent buffer; or 15, and the buffer as it was, where it is shorter than the listing
-abbrev pub ListedIn : List ℕ → List ℕ → List ℕ → List ℕ → Written → Type 0
+abbrev pub ListedIn : List ℕ → List ℕ → List ℕ → List ℕ → Result ℕ Refused → Type 0
 ListedIn pattern log = PutIn (Listing pattern log)

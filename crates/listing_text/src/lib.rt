@@ -1,27 +1,27 @@
 // The listing: a pattern and a log judged, and the verdict as text in a lent buffer.
 #![tactic(auto)]
 
-ghost use Rattle.std.specs.Prelude.{◌≡◌, cond, []};
+ghost use Rattle.std.specs.Prelude.{◌≡◌, ◌≤◌, cond, [], length};
 ghost use Rattle.page.specs.Text.{ascii};
-ghost use Rattle.page.specs.Page.{empty_page, onto, Adds};
+ghost use Rattle.page.specs.Page.{empty_page, onto, room, Adds};
 ghost use Rattle.listing_text.specs.Text.{metres_text, height_text, operation_text, slot_text, slot_line, match_line};
-ghost use Rattle.listing_text.specs.OutcomeText.{lines_of, text_of};
+ghost use Rattle.listing_text.specs.OutcomeText.{lines_of, found_text, text_of};
 ghost use Rattle.listing_text.specs.Listing.{Listing, ListedIn};
 
+use event::refusal::Refused;
 use event::{Event, Operation};
 use height::Metres;
 use page::Page;
-use run::{Judged, Outcome};
-use writer::Written;
+use run::RunRefusal;
+use session::Verdict;
 
 pub const NO_MATCH: [u8; 9] = *b"no match\n";
 
 // Writes the listing of a pattern and a log at the start of a lent buffer.
-pub fn write(pattern: &[u8], log: &[u8], buffer: &mut [u8]) -> Written
+pub fn write(pattern: &[u8], log: &[u8], buffer: &mut [u8]) -> Result<usize, Refused>
     ensures { ListedIn pattern.now log.now buffer.old buffer.new result }
 {
-    let page = listing(pattern, log);
-    page.put(buffer)
+    listing(pattern, log).put(buffer)
 }
 
 fn listing(pattern: &[u8], log: &[u8]) -> Page
@@ -39,24 +39,34 @@ fn listing(pattern: &[u8], log: &[u8]) -> Page
 }
 
 // What a run said.
-pub fn verdict(p: Page, judged: Judged, log: &[u8]) -> Page
-    ensures { result ≡ onto p (text_of log.now judged.outcome judged.numbers) }
+#[tactic(auto, using(page::proofs::Onto::onto_append, crate::proofs::Lengths::refused_fits, crate::proofs::Lengths::pattern_refused_fits))]
+pub fn verdict(p: Page, judged: Result<Verdict, RunRefusal>, log: &[u8]) -> Page
+    ensures text { result ≡ onto p (text_of log.now judged) }
+    ensures short { length (text_of log.now judged) ≤ room }
 {
-    let outcome = judged.outcome;
-    let numbers = judged.numbers;
-    match outcome {
-        Outcome::Match { count } => slot_lines(match_line(p, count), log, numbers),
-        Outcome::None => p.text(&NO_MATCH),
-        Outcome::PatternRefused { number, offset } => p.text(b"pattern ").refusal(number, offset),
-        Outcome::LogRefused { number, offset } => p.refusal(number, offset),
+    match judged {
+        Ok(verdict) => found(p, verdict, log),
+        Err(RunRefusal::Pattern(refused)) => p.text(b"pattern ").refusal(refused),
+        Err(RunRefusal::Log(refused)) => p.refusal(refused),
     }
 }
 
+#[tactic(auto, using(page::proofs::Onto::onto_append, crate::proofs::Lengths::found_fits))]
+fn found(p: Page, verdict: Verdict, log: &[u8]) -> Page
+    ensures text { result ≡ onto p (found_text log.now verdict.found verdict.numbers) }
+    ensures short { length (found_text log.now verdict.found verdict.numbers) ≤ room }
+{
+    match verdict.found {
+        Some(count) => slot_lines(match_line(p, count), log, verdict.numbers),
+        None => p.text(&NO_MATCH),
+    }
+}
+
+#[tactic(auto, using(page::proofs::Onto::onto_append))]
 pub fn match_line(p: Page, count: usize) -> Page
     ensures { result ≡ onto p (match_line count) }
 {
-    let q = p.word(b"match at ", count);
-    q.text(b"\n")
+    p.word(b"match at ", count).text(b"\n")
 }
 
 // The lines of the slots: the event of each number, from the log. A number 0 stands beyond the last slot.
@@ -75,25 +85,27 @@ pub fn slot_lines(from: Page, log: &[u8], numbers: [u16; event::SLOTS]) -> Page
     p
 }
 
+#[tactic(auto, using(page::proofs::Onto::onto_append))]
 fn slot_line(p: Page, slot: usize, n: usize, e: Event) -> Page
     ensures { result ≡ onto p (slot_line slot n e) }
 {
-    let f = slot_text(p, slot, n, e);
-    f.text(b"\n")
+    slot_text(p, slot, n, e).text(b"\n")
 }
 
 // A slot's line without its line feed.
+#[tactic(auto, using(page::proofs::Onto::onto_append))]
 pub fn slot_text(p: Page, slot: usize, n: usize, e: Event) -> Page
     ensures { result ≡ onto p (slot_text slot n e) }
 {
-    let a = p.number(slot);
-    let b = a.word(b" event ", n);
-    let c = b.word(b" thread ", e.thread as usize);
-    let d = c.text(b" ");
-    let op = e.operation;
-    operation_text(d, op)
+    let q = p
+        .number(slot)
+        .word(b" event ", n)
+        .word(b" thread ", e.thread as usize)
+        .text(b" ");
+    operation_text(q, e.operation)
 }
 
+#[tactic(auto, using(page::proofs::Onto::onto_append))]
 fn operation_text(p: Page, op: Operation) -> Page
     ensures { result ≡ onto p (operation_text op) }
 {
@@ -117,20 +129,19 @@ fn height_text(p: Page, mm: i32) -> Page
     metres_text(p, height::in_metres(mm))
 }
 
+#[tactic(auto, using(page::proofs::Onto::onto_append))]
 fn metres_text(p: Page, m: Metres) -> Page
     ensures { result ≡ onto p (metres_text m) }
 {
-    let q = sign(p, m.below);
-    let r = q.number(m.whole as usize);
-    let s = r.text(b".");
-    s.number(m.tenth as usize)
+    sign(p, m.below)
+        .number(m.whole as usize)
+        .text(b".")
+        .number(m.tenth as usize)
 }
 
+#[tactic(auto, using(page::proofs::Onto::onto_none))]
 fn sign(p: Page, below: bool) -> Page
     ensures { result ≡ onto p (cond below (ascii "-") []) }
 {
-    if below {
-        return p.text(b"-");
-    }
-    p
+    if below { p.text(b"-") } else { p }
 }

@@ -1,12 +1,8 @@
-use Rattle.listing_text.proofs.Lengths.{fits_a_page}
 use Rattle.listing_text.proofs.Judgement.{listed}
 use Rattle.listing_text.specs.Listing.{long_pattern, long_log, judged}
 use Rattle.listing_text.specs.OutcomeText.{text_of}
 use Rattle.page.specs.Lines.{too_long_line}
-use lib.ListN.{length}
-use mathlib.Core.Path.{◌≡◌}
 use native.Mathlib.Omega.{arith}
-use borrow.Author.Rules.{rules}
 use Rattle.listing_text.proofs.listing.Goals as goal
 
 pub returns-then-pattern-gt-LONGEST : goal.returns-then-pattern-gt-LONGEST
@@ -29,8 +25,8 @@ pub returns : goal.returns
 returns c = let a = c.args in
     let r = c.run-judged.result in
     record {
-      text = text_of a.log.now r.outcome r.numbers;
+      text = text_of a.log.now r;
       kind = judged c.if-pattern-gt-LONGEST.false c.if-log-gt-LONGEST.false (listed a.pattern.now a.log.now r c.run-judged.ensures);
-      short = fits_a_page a.log.now r.outcome r.numbers (let n : length r.numbers ≡ 5 = search rules in omega arith);
-      page = rw (c.verdict.ensures, c.empty-p.ensures);
+      short = c.verdict.ensures.short;
+      page = rw (c.verdict.ensures.text, c.empty-p.ensures);
     }
