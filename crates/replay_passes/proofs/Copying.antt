@@ -10,14 +10,13 @@ use mathlib.Core.Bool.{Bool, true, false, cond}
 use mathlib.Core.List.{List, [], ◌∷◌, ◌++◌, append_assoc, append-nil}
 use lib.Dec.{eqb}
 use lib.ListN.{length, get_or, take, drop, set, take-append-drop, length-append, length-drop, length-set}
-use lib.Seq.{take_at, take-length, get_or-set_same, get_or-set_other}
+use lib.Seq.{take_at, get_or-set_same, get_or-set_other}
 use borrow.Author.Tests.{eq-eqb, ne_eqb, le-leb, lt-ltb}
 use Rattle.event.specs.declared.Event.{Event}
 use Rattle.event.specs.Limits.{threads, events}
 use Rattle.event.specs.Slots.{slot_of, no_event}
 use Rattle.event.specs.Range.{range_refusal}
 use Rattle.event.proofs.InRange.{in_range}
-use Rattle.event.proofs.Tests.{by_test}
 use Rattle.trace.specs.Tuples.{event_at, thread_at, place, keep}
 use Rattle.trace.proofs.Numbers.{event_append, event_new}
 use Rattle.trace.proofs.Stamps.{place_append}
@@ -28,7 +27,7 @@ use Rattle.command.specs.Commands.{event_bytes}
 use Rattle.command.specs.Reading.{command, read_event, read_event_under, decode}
 use Rattle.command.proofs.Held.{was_taken}
 use Rattle.command.proofs.Inversion.{goes_on_lem}
-use Rattle.writer.specs.Writing.{written, refused, writing, has_room, put, buffer_after}
+use Rattle.writer.specs.Writing.{put}
 use Rattle.writer.proofs.Buffers.{put_more, length_put}
 use Rattle.event_log.proofs.LogRoundTrip.{events_kind}
 use Rattle.clock.specs.declared.Stamp.{Stamp}
@@ -62,29 +61,6 @@ more_bytes test es i (suc n) l = go (dec_le i n) (λ u. more_bytes test es i n u
 -- ---- bytes put where they are wanted and there is room for them
 
 module _ (bytes buffer : List ℕ) (at : ℕ) where
-  pub put_there : (next : ℕ) (after : List ℕ) → written next ≡ writing 0 (take (length bytes) bytes) buffer at → after ≡ buffer_after 0 (take (length bytes) bytes) buffer at
-      → CopiedIf true bytes buffer at next after
-  put_there next after q a = by_test (has_room bytes buffer at) room (λ f. absurd (no_room f))
-    where
-      room : has_room bytes buffer at ≡ true → CopiedIf true bytes buffer at next after
-      room t =
-          let w : written next ≡ written (at + length bytes) = rw (take-length bytes, t) at q in
-          let p : next ≡ at + length bytes = cc in
-          record { place = rw t p; is = rw t (rw (take-length bytes, t) at a) }
-
-      no_room : has_room bytes buffer at ≡ false → ⊥
-      no_room f = let w : written next ≡ refused 15 at = rw (take-length bytes, f) at q in let z : ◌≡◌ {A = ℕ} 0 1 = cc in let f : ⊥ = omega arith in f
-
-  pub put_refused : (k o : ℕ) (after : List ℕ) → refused k o ≡ writing 0 (take (length bytes) bytes) buffer at → after ≡ buffer_after 0 (take (length bytes) bytes) buffer at
-      → CopiedIf true bytes buffer at at after
-  put_refused k o after q a = by_test (has_room bytes buffer at) (λ t. absurd (room t)) no_room
-    where
-      room : has_room bytes buffer at ≡ true → ⊥
-      room t = let w : refused k o ≡ written (at + length bytes) = rw (take-length bytes, t) at q in let z : ◌≡◌ {A = ℕ} 0 1 = cc in let f : ⊥ = omega arith in f
-
-      no_room : has_room bytes buffer at ≡ false → CopiedIf true bytes buffer at at after
-      no_room f = record { place = rw f refl; is = rw f (rw (take-length bytes, f) at a) }
-
   -- with room
   pub copied_there : {to : ℕ} {after : List ℕ} → CopiedIf true bytes buffer at to after → at + length bytes ≤ length buffer → (to ≡ at + length bytes) × (after ≡ put bytes buffer at)
   copied_there c l = let t = le-leb (length bytes) (length buffer - at) (omega arith) in (rw t at c.place, rw t at c.is)

@@ -1,13 +1,12 @@
 // The replay order of a log, by the events that a match names: written group by group, each command as it stands.
 #![tactic(auto)]
 
-ghost use Rattle.std.specs.Prelude.{◌≡◌, Bool, List, ℕ, ◌+◌, ◌≤◌, min, length, take};
+ghost use Rattle.std.specs.Prelude.{◌≡◌, Bool, true, List, ℕ, ◌+◌, ◌≤◌, min, length, take};
 ghost use Rattle.event.specs.declared.Event.{Event};
 ghost use Rattle.event.specs.Limits.{slots as slot_limit};
 ghost use Rattle.replay_passes.specs.Copies.{ReadAs, NamedAmong, commands, copied, between, Tells, CopiedIf, Copies, Replays};
 
 use clock::Stamp;
-use writer::Written;
 
 // Writes the replay of a log at the start of a lent buffer, by the numbers of the slots' events, which are among its first n: how many bytes it has.
 pub fn write(
@@ -32,10 +31,10 @@ pub fn write(
     }
     // No place is above the highest count: the rest is all that lies above what is written.
     let all = Stamp {
-        at: [65535; clock::THREADS],
+        at: [u16::MAX; clock::THREADS],
     };
     let end = copy_between(log, event::EVENTS, written, all, buffer, at);
-    copy_if(true, buffer, end, &[0])
+    copy(buffer, end, &[0])
 }
 
 // Copies those of the first n events whose place in their thread is above the one stamp's count and within the other's, from a place of the buffer on:
@@ -53,8 +52,7 @@ fn copy_between(
     let mut seen = [0u16; clock::THREADS];
     let mut to = start;
     let mut at: usize = 0;
-    let mut i: usize = 0;
-    while i < n {
+    for i in 0..n {
         let next = command::next_at(log, at);
         if next == at {
             return to;
@@ -66,10 +64,10 @@ fn copy_between(
         }
         let place = clock::next_count(seen[t], true);
         seen[t] = place;
-        let passes = lies_between(above.at[t], within.at[t], place);
-        to = copy_if(passes, buffer, to, &log[at..next]);
+        if lies_between(above.at[t], within.at[t], place) {
+            to = copy(buffer, to, &log[at..next]);
+        }
         at = next;
-        i += 1;
     }
     to
 }
@@ -77,25 +75,12 @@ fn copy_between(
 fn lies_between(low: u16, high: u16, place: u16) -> bool
     ensures { result ≡ between low high place }
 {
-    if place <= low {
-        return false;
-    }
-    place <= high
+    low < place && place <= high
 }
 
-// Copies bytes to a place of the buffer where it is wanted and there is room for them: the place after them.
-fn copy_if(wanted: bool, buffer: &mut [u8], at: usize, bytes: &[u8]) -> usize
-    ensures { CopiedIf wanted bytes.now buffer.old at result buffer.new }
+// Copies bytes to a place of the buffer where there is room for them: the place after them.
+fn copy(buffer: &mut [u8], at: usize, bytes: &[u8]) -> usize
+    ensures { CopiedIf true bytes.now buffer.old at result buffer.new }
 {
-    if !wanted {
-        return at;
-    }
-    let put = writer::put(buffer, at, bytes, bytes.len());
-    match put {
-        Written::Next { at: next } => next,
-        Written::Refused {
-            number: _,
-            offset: _,
-        } => at,
-    }
+    writer::put(buffer, at, bytes).unwrap_or(at)
 }

@@ -42,5 +42,5 @@ returns c = let nums = c.args.numbers in
     let f = fits_in r c.requires w li stamps st c.args.buffer.now u in
     let z : l.j ≡ c.args.size = let h = l.invariant.0 in omega arith in
     let k = c.copy_between-end.ensures es _ r (tells_rest es nums stamps c.args.size c.args.buffer.now f g z r.few) (room_rest es nums stamps c.args.size c.args.buffer.now f g z r.few) in
-    let h = closed_log es nums stamps c.args.size c.args.buffer.now f g z r.few _ _ k _ _ (copied_there _ _ _ c.copy_if.ensures (room_closing es nums stamps c.args.size c.args.buffer.now f g z r.few _ _ k)) in
+    let h = closed_log es nums stamps c.args.size c.args.buffer.now f g z r.few _ _ k _ _ (copied_there _ _ _ c.copy.ensures (room_closing es nums stamps c.args.size c.args.buffer.now f g z r.few _ _ k)) in
     record { order = order r c.requires w li stamps st; replay = is_replay r c.requires w li stamps st; bytes = h.0; is = h.1 }
