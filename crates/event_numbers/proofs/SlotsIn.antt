@@ -47,8 +47,8 @@ fits_told e l (s ∷ ss) (one_slot z g) =
     ap₂ (λ (x : Bool) (xs : List Bool). x ∷ xs) (sym (fits_by_number s e (omega arith) l)) (fits_told e l ss g)
 
 -- a slot with another number than that of the event's own is one that the event does not fit
-pub none_told : (slots : List ℕ) (n j : ℕ) → (get_or slots j 0 ≡ n → ⊥) → get_or (fitting_in slots n) j false ≡ false
+pub none_told : (ns : List ℕ) (n j : ℕ) → (get_or ns j 0 ≡ n → ⊥) → get_or (fitting_in ns n) j false ≡ false
 unfolding fitting_in
 none_told [] n j d = refl
-none_told (m ∷ slots) n zero d = ne_eqb m n d
-none_told (m ∷ slots) n (suc j) d = none_told slots n j d
+none_told (m ∷ ns) n zero d = ne_eqb m n d
+none_told (m ∷ ns) n (suc j) d = none_told ns n j d

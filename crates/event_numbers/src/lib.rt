@@ -3,10 +3,12 @@
 
 ghost use Rattle.std.specs.Prelude.{◌≡◌, ◌↔◌, true, ℕ, ◌≤◌, ◌<◌, get_or};
 ghost use Rattle.event.specs.Limits.{slots as slot_limit};
+ghost use Rattle.event.specs.Refusals.{number_given};
 ghost use Rattle.command.specs.Reading.{operation_of};
 ghost use Rattle.event_numbers.specs.EventNumbers.{handed_over, event_from, Narrow, unfit_by};
 ghost use Rattle.event_numbers.specs.SlotNumbers.{acting_in, fitting_in};
 
+use event::refusal::Refusal;
 use event::{Event, Operation, SLOTS};
 
 const THREADS: u32 = event::THREADS as u32;
@@ -20,60 +22,40 @@ const BYTES: u32 = 256;
 pub fn none_in(slots: &[u32; SLOTS], size: u32, n: u32) -> bool
     ensures { (result ≡ true) ↔ ((size ≤ slot_limit) × ((j : ℕ) → j < size → get_or slots.now j 0 ≡ n → ⊥)) }
 {
-    for j in 0..SLOTS {
-        if j as u32 >= size {
-            return true;
-        }
-        if slots[j] == n {
-            return false;
-        }
-    }
-    size as usize <= SLOTS
+    size as usize <= SLOTS && !slots.iter().take(size as usize).any(|slot| *slot == n)
 }
 
 // The thread in the number of each slot.
+#[tactic(auto, unfolding(crate::specs::SlotNumbers::acting_in))]
 pub fn threads_in(slots: [u32; SLOTS]) -> [u8; SLOTS]
     ensures { result ≡ acting_in slots }
 {
-    let mut r = [0u8; SLOTS];
-    for j in 0..SLOTS {
-        let n = slots[j];
-        r[j] = (n / 256 % 256) as u8;
-    }
-    r
+    slots.map(|slot| (slot / 256 % 256) as u8)
 }
 
 // Which slots have this number.
+#[tactic(auto, unfolding(crate::specs::SlotNumbers::fitting_in))]
 pub fn fitting_in(slots: [u32; SLOTS], n: u32) -> [bool; SLOTS]
     ensures { result ≡ fitting_in slots n }
 {
-    let mut r = [false; SLOTS];
-    for j in 0..SLOTS {
-        r[j] = slots[j] == n;
-    }
-    r
+    slots.map(|slot| slot == n)
 }
 
-// The refusal of numbers that no event can hold.
-pub fn unfit(thread: u32, operation: u32, object: u32) -> u8
-    ensures { result ≡ unfit_by thread operation object }
+// Refused with 3, 5 or 6 where no event can hold the numbers.
+pub fn unfit(thread: u32, operation: u32, object: u32) -> Result<(), Refusal>
+    ensures { number_given result ≡ unfit_by thread operation object }
 {
-    if operation == 0 {
-        return 3;
-    }
-    if 7 < operation {
-        return 3;
+    if operation == 0 || 7 < operation {
+        return Err(Refusal::UnknownByte);
     }
     if thread >= THREADS {
-        return 5;
+        return Err(Refusal::ThreadAboveLimit);
     }
-    if object >= MARKS {
-        return 6;
+    let limit = if operation == 7 { MARKS } else { BYTES };
+    if object >= limit {
+        return Err(Refusal::ObjectAboveLimit);
     }
-    if operation == 7 {
-        return 0;
-    }
-    if object >= BYTES { 6 } else { 0 }
+    Ok(())
 }
 
 // The event of the numbers, each as wide as an event holds it.
