@@ -3,106 +3,222 @@
 
 use event::{Event, Operation};
 
-// How many heights are tried from each start.
-const HEIGHTS: usize = 2001;
-
-fn main() {
-    let below = below_zero(0);
-    let all = zero_and_above(below);
-    console::count(b"from -1000 to 1000 mm", all);
-    let ends = at_the_ends(0);
-    console::count(b"at both ends", ends);
-    let none = not_so(0);
-    console::count(b"otherwise", none);
+// Heights that print alike, and how: the first and the last of them.
+struct Row {
+    first: i32,
+    last: i32,
+    text: &'static [u8],
 }
 
-// The table. A row has the first and the last height that print so; `n` counts on.
-fn below_zero(from: u64) -> u64 {
-    let mut n = from;
-    n = row(n, -1000, -950, b"-1.0");
-    n = row(n, -949, -851, b"-0.9");
-    n = row(n, -850, -750, b"-0.8");
-    n = row(n, -749, -651, b"-0.7");
-    n = row(n, -650, -550, b"-0.6");
-    n = row(n, -549, -451, b"-0.5");
-    n = row(n, -450, -350, b"-0.4");
-    n = row(n, -349, -251, b"-0.3");
-    n = row(n, -250, -150, b"-0.2");
-    row(n, -149, -51, b"-0.1")
-}
+const AROUND_ZERO: [Row; 21] = [
+    Row {
+        first: -1000,
+        last: -950,
+        text: b"-1.0",
+    },
+    Row {
+        first: -949,
+        last: -851,
+        text: b"-0.9",
+    },
+    Row {
+        first: -850,
+        last: -750,
+        text: b"-0.8",
+    },
+    Row {
+        first: -749,
+        last: -651,
+        text: b"-0.7",
+    },
+    Row {
+        first: -650,
+        last: -550,
+        text: b"-0.6",
+    },
+    Row {
+        first: -549,
+        last: -451,
+        text: b"-0.5",
+    },
+    Row {
+        first: -450,
+        last: -350,
+        text: b"-0.4",
+    },
+    Row {
+        first: -349,
+        last: -251,
+        text: b"-0.3",
+    },
+    Row {
+        first: -250,
+        last: -150,
+        text: b"-0.2",
+    },
+    Row {
+        first: -149,
+        last: -51,
+        text: b"-0.1",
+    },
+    Row {
+        first: -50,
+        last: 50,
+        text: b"0.0",
+    },
+    Row {
+        first: 51,
+        last: 149,
+        text: b"0.1",
+    },
+    Row {
+        first: 150,
+        last: 250,
+        text: b"0.2",
+    },
+    Row {
+        first: 251,
+        last: 349,
+        text: b"0.3",
+    },
+    Row {
+        first: 350,
+        last: 450,
+        text: b"0.4",
+    },
+    Row {
+        first: 451,
+        last: 549,
+        text: b"0.5",
+    },
+    Row {
+        first: 550,
+        last: 650,
+        text: b"0.6",
+    },
+    Row {
+        first: 651,
+        last: 749,
+        text: b"0.7",
+    },
+    Row {
+        first: 750,
+        last: 850,
+        text: b"0.8",
+    },
+    Row {
+        first: 851,
+        last: 949,
+        text: b"0.9",
+    },
+    Row {
+        first: 950,
+        last: 1000,
+        text: b"1.0",
+    },
+];
 
-fn zero_and_above(from: u64) -> u64 {
-    let mut n = from;
-    n = row(n, -50, 50, b"0.0");
-    n = row(n, 51, 149, b"0.1");
-    n = row(n, 150, 250, b"0.2");
-    n = row(n, 251, 349, b"0.3");
-    n = row(n, 350, 450, b"0.4");
-    n = row(n, 451, 549, b"0.5");
-    n = row(n, 550, 650, b"0.6");
-    n = row(n, 651, 749, b"0.7");
-    n = row(n, 750, 850, b"0.8");
-    n = row(n, 851, 949, b"0.9");
-    row(n, 950, 1000, b"1.0")
-}
-
-fn at_the_ends(from: u64) -> u64 {
-    let mut n = from;
-    n = row(n, -2147483648, -2147483550, b"-2147483.6");
-    n = row(n, -2147483549, -2147483451, b"-2147483.5");
-    n = row(n, -2147483450, -2147483350, b"-2147483.4");
-    n = row(n, 2147483350, 2147483450, b"2147483.4");
-    n = row(n, 2147483451, 2147483549, b"2147483.5");
-    row(n, 2147483550, 2147483647, b"2147483.6")
-}
+const AT_THE_ENDS: [Row; 6] = [
+    Row {
+        first: -2147483648,
+        last: -2147483550,
+        text: b"-2147483.6",
+    },
+    Row {
+        first: -2147483549,
+        last: -2147483451,
+        text: b"-2147483.5",
+    },
+    Row {
+        first: -2147483450,
+        last: -2147483350,
+        text: b"-2147483.4",
+    },
+    Row {
+        first: 2147483350,
+        last: 2147483450,
+        text: b"2147483.4",
+    },
+    Row {
+        first: 2147483451,
+        last: 2147483549,
+        text: b"2147483.5",
+    },
+    Row {
+        first: 2147483550,
+        last: 2147483647,
+        text: b"2147483.6",
+    },
+];
 
 // What no height prints: a sign before zero, what document 01 had for 50 and -50 mm, and halves at the odd tenth. Each count is 0, so that a row is seen to fail.
-fn not_so(from: u64) -> u64 {
-    let mut n = from;
-    n = row(n, -1000, 1000, b"-0.0");
-    n = row(n, 50, 50, b"0.1");
-    n = row(n, -50, -50, b"-0.1");
-    n = row(n, 150, 150, b"0.1");
-    row(n, 250, 250, b"0.3")
+const NOT_SO: [Row; 5] = [
+    Row {
+        first: -1000,
+        last: 1000,
+        text: b"-0.0",
+    },
+    Row {
+        first: 50,
+        last: 50,
+        text: b"0.1",
+    },
+    Row {
+        first: -50,
+        last: -50,
+        text: b"-0.1",
+    },
+    Row {
+        first: 150,
+        last: 150,
+        text: b"0.1",
+    },
+    Row {
+        first: 250,
+        last: 250,
+        text: b"0.3",
+    },
+];
+
+fn main() {
+    console::count(b"from -1000 to 1000 mm", counted(&AROUND_ZERO));
+    console::count(b"at both ends", counted(&AT_THE_ENDS));
+    console::count(b"otherwise", counted(&NOT_SO));
 }
 
-// Says how many heights of the row print so, and counts them on. They are looked for among those from -1,000 up, from the lowest up, and up to the highest.
-fn row(n: u64, first: i32, last: i32, text: &[u8]) -> u64 {
-    let mut count = 0u64;
-    for k in 0..HEIGHTS {
-        let i = k as i32;
-        count = std::num::wrapping_add_u64(count, one(-1000 + i, first, last, text));
-        count = std::num::wrapping_add_u64(count, one(-2147483648 + i, first, last, text));
-        count = std::num::wrapping_add_u64(count, one(2147481647 + i, first, last, text));
+// Says of each row how many heights print so, and counts them all.
+fn counted(rows: &[Row]) -> u64 {
+    let mut all: u64 = 0;
+    for row in rows {
+        let count = heights(row);
+        console::count(row.text, count);
+        all = all.wrapping_add(count);
     }
-    console::count(text, count);
-    std::num::wrapping_add_u64(n, count)
+    all
 }
 
-// 1 for a height of the row that prints so, else 0.
-fn one(mm: i32, first: i32, last: i32, text: &[u8]) -> u64 {
-    if mm < first {
-        return 0;
-    }
-    if last < mm {
-        return 0;
-    }
-    if prints(mm, text) { 1 } else { 0 }
+// How many heights of the row print so. They are looked for among those from -1,000 up, from the lowest up, and up to the highest.
+fn heights(row: &Row) -> u64 {
+    (-1000..=1000)
+        .chain(i32::MIN..=i32::MIN + 2000)
+        .chain(i32::MAX - 2000..=i32::MAX)
+        .filter(|&mm| row.first <= mm && mm <= row.last && prints(mm, row.text))
+        .count() as u64
 }
 
 // Whether the listing of a log with a write of this height, and of the slot that it fits, is that of a match with this text.
 fn prints(mm: i32, text: &[u8]) -> bool {
     let mut log = [0u8; 8];
-    let e = write(mm);
-    writer::write_event(&mut log, 0, e);
+    let _ = writer::write_event(&mut log, 0, write(mm));
     let mut listed = [0u8; page::ROOM];
-    listing_text::write(b"\x02\x00\x00\x00", &log, &mut listed);
-    let p = page::empty().text(b"match at 1\n1 event 1 thread 0 write 0 ");
-    let q = p.text(text);
-    let r = q.text(b"\n");
+    let _ = listing_text::write(b"\x02\x00\x00\x00", &log, &mut listed);
     let mut due = [0u8; page::ROOM];
-    r.put(&mut due);
-    check::same(&listed, &due)
+    let _ = page::empty()
+        .text(b"match at 1\n1 event 1 thread 0 write 0 ")
+        .text(text)
+        .text(b"\n")
+        .put(&mut due);
+    listed == due
 }
 
 fn write(mm: i32) -> Event {
