@@ -3,206 +3,74 @@
 
 use event::{Event, Operation};
 
-// Heights that print alike, and how: the first and the last of them.
-struct Row {
-    first: i32,
-    last: i32,
-    text: &'static [u8],
-}
+// Heights that print alike: the first, the last, and how.
+type Row = (i32, i32, &'static [u8]);
 
 const AROUND_ZERO: [Row; 21] = [
-    Row {
-        first: -1000,
-        last: -950,
-        text: b"-1.0",
-    },
-    Row {
-        first: -949,
-        last: -851,
-        text: b"-0.9",
-    },
-    Row {
-        first: -850,
-        last: -750,
-        text: b"-0.8",
-    },
-    Row {
-        first: -749,
-        last: -651,
-        text: b"-0.7",
-    },
-    Row {
-        first: -650,
-        last: -550,
-        text: b"-0.6",
-    },
-    Row {
-        first: -549,
-        last: -451,
-        text: b"-0.5",
-    },
-    Row {
-        first: -450,
-        last: -350,
-        text: b"-0.4",
-    },
-    Row {
-        first: -349,
-        last: -251,
-        text: b"-0.3",
-    },
-    Row {
-        first: -250,
-        last: -150,
-        text: b"-0.2",
-    },
-    Row {
-        first: -149,
-        last: -51,
-        text: b"-0.1",
-    },
-    Row {
-        first: -50,
-        last: 50,
-        text: b"0.0",
-    },
-    Row {
-        first: 51,
-        last: 149,
-        text: b"0.1",
-    },
-    Row {
-        first: 150,
-        last: 250,
-        text: b"0.2",
-    },
-    Row {
-        first: 251,
-        last: 349,
-        text: b"0.3",
-    },
-    Row {
-        first: 350,
-        last: 450,
-        text: b"0.4",
-    },
-    Row {
-        first: 451,
-        last: 549,
-        text: b"0.5",
-    },
-    Row {
-        first: 550,
-        last: 650,
-        text: b"0.6",
-    },
-    Row {
-        first: 651,
-        last: 749,
-        text: b"0.7",
-    },
-    Row {
-        first: 750,
-        last: 850,
-        text: b"0.8",
-    },
-    Row {
-        first: 851,
-        last: 949,
-        text: b"0.9",
-    },
-    Row {
-        first: 950,
-        last: 1000,
-        text: b"1.0",
-    },
+    (-1000, -950, b"-1.0"),
+    (-949, -851, b"-0.9"),
+    (-850, -750, b"-0.8"),
+    (-749, -651, b"-0.7"),
+    (-650, -550, b"-0.6"),
+    (-549, -451, b"-0.5"),
+    (-450, -350, b"-0.4"),
+    (-349, -251, b"-0.3"),
+    (-250, -150, b"-0.2"),
+    (-149, -51, b"-0.1"),
+    (-50, 50, b"0.0"),
+    (51, 149, b"0.1"),
+    (150, 250, b"0.2"),
+    (251, 349, b"0.3"),
+    (350, 450, b"0.4"),
+    (451, 549, b"0.5"),
+    (550, 650, b"0.6"),
+    (651, 749, b"0.7"),
+    (750, 850, b"0.8"),
+    (851, 949, b"0.9"),
+    (950, 1000, b"1.0"),
 ];
 
-const AT_THE_ENDS: [Row; 6] = [
-    Row {
-        first: -2147483648,
-        last: -2147483550,
-        text: b"-2147483.6",
-    },
-    Row {
-        first: -2147483549,
-        last: -2147483451,
-        text: b"-2147483.5",
-    },
-    Row {
-        first: -2147483450,
-        last: -2147483350,
-        text: b"-2147483.4",
-    },
-    Row {
-        first: 2147483350,
-        last: 2147483450,
-        text: b"2147483.4",
-    },
-    Row {
-        first: 2147483451,
-        last: 2147483549,
-        text: b"2147483.5",
-    },
-    Row {
-        first: 2147483550,
-        last: 2147483647,
-        text: b"2147483.6",
-    },
+const AT_BOTH_ENDS: [Row; 6] = [
+    (-2147483648, -2147483550, b"-2147483.6"),
+    (-2147483549, -2147483451, b"-2147483.5"),
+    (-2147483450, -2147483350, b"-2147483.4"),
+    (2147483350, 2147483450, b"2147483.4"),
+    (2147483451, 2147483549, b"2147483.5"),
+    (2147483550, 2147483647, b"2147483.6"),
 ];
 
 // What no height prints: a sign before zero, what document 01 had for 50 and -50 mm, and halves at the odd tenth. Each count is 0, so that a row is seen to fail.
 const NOT_SO: [Row; 5] = [
-    Row {
-        first: -1000,
-        last: 1000,
-        text: b"-0.0",
-    },
-    Row {
-        first: 50,
-        last: 50,
-        text: b"0.1",
-    },
-    Row {
-        first: -50,
-        last: -50,
-        text: b"-0.1",
-    },
-    Row {
-        first: 150,
-        last: 150,
-        text: b"0.1",
-    },
-    Row {
-        first: 250,
-        last: 250,
-        text: b"0.3",
-    },
+    (-1000, 1000, b"-0.0"),
+    (50, 50, b"0.1"),
+    (-50, -50, b"-0.1"),
+    (150, 150, b"0.1"),
+    (250, 250, b"0.3"),
 ];
 
 fn main() {
     console::count(b"from -1000 to 1000 mm", counted(&AROUND_ZERO));
-    console::count(b"at both ends", counted(&AT_THE_ENDS));
+    console::count(b"at both ends", counted(&AT_BOTH_ENDS));
     console::count(b"otherwise", counted(&NOT_SO));
 }
 
 // Says of each row how many heights print so, and counts them all.
 fn counted(rows: &[Row]) -> u64 {
     let mut all: u64 = 0;
-    for row in rows {
-        let count = heights(row);
-        console::count(row.text, count);
+    for &(first, last, text) in rows {
+        let count = heights(first, last, text);
+        console::count(text, count);
         all = all.wrapping_add(count);
     }
     all
 }
 
 // How many heights of the row print so. They are looked for among those from -1,000 up, from the lowest up, and up to the highest.
-fn heights(row: &Row) -> u64 {
+fn heights(first: i32, last: i32, text: &[u8]) -> u64 {
     (-1000..=1000)
         .chain(i32::MIN..=i32::MIN + 2000)
         .chain(i32::MAX - 2000..=i32::MAX)
-        .filter(|&mm| row.first <= mm && mm <= row.last && prints(mm, row.text))
+        .filter(|&mm| (first..=last).contains(&mm) && prints(mm, text))
         .count() as u64
 }
 
