@@ -26,6 +26,8 @@ use Rattle.dependence.proofs.Dependent.{one_thread}
 use Rattle.clock.specs.declared.Stamp.{Stamp}
 use Rattle.clock.specs.Clocks.{count_of}
 use Rattle.event_stamps.specs.EventStamps.{no_entry, StampsTo}
+use Rattle.std.specs.Prelude.{Some, None}
+use Rattle.last_fit.specs.declared.PlacedEvent.{PlacedEvent}
 use Rattle.last_fit.specs.LastFit.{LastFit, never, last}
 use Rattle.run.specs.Answers.{greatest_of}
 use Rattle.verdict_reason.specs.declared.Cause.TheVariants.{NoFit, TooEarly}
@@ -106,10 +108,8 @@ module _ {es : List Event} {slot : Slot} {k : ℕ} {numbers : List ℕ} (s : Sto
         absurd (both_ways ((comes_by_place r.0 r.2).1 (rw r.3 at c.2)) (none (suc r.0) (omega arith) (let v = r.2 in omega arith)))
 
   -- what the last event that fits the slot says
-  pub too_soon : {l p i : ℕ} → LastFit es slot l p → (l ≡ 0 → ⊥) → Lowest (counts_at stamps slot.thread p) k i → Causes es slot k numbers (TooEarly (k + 1) l i)
-  too_soon (never d) z low = absurd (z refl)
-  too_soon {i = i} (last {l = l} n f h) z low = record { obstacle = last_fit l i; is = refl; stands = in_the_way n f h low }
+  pub too_soon : {l : PlacedEvent} {i : ℕ} → LastFit es slot (Some l) → Lowest (counts_at stamps slot.thread l.place) k i → Causes es slot k numbers (TooEarly (k + 1) l.number i)
+  too_soon {i = i} (last {l = l} n f h) low = record { obstacle = last_fit l i; is = refl; stands = in_the_way n f h low }
 
-pub none_fit : {es : List Event} {slot : Slot} {k : ℕ} {numbers : List ℕ} {l p : ℕ} → LastFit es slot l p → l ≡ 0 → Causes es slot k numbers (NoFit (k + 1))
-none_fit (never d) z = record { obstacle = no_fit; is = refl; stands = none_fits d }
-none_fit (last n f h) z = let u = numbered_among n in absurd (let w : ⊥ = omega arith in w)
+pub none_fit : {es : List Event} {slot : Slot} {k : ℕ} {numbers : List ℕ} → LastFit es slot None → Causes es slot k numbers (NoFit (k + 1))
+none_fit (never d) = record { obstacle = no_fit; is = refl; stands = none_fits d }

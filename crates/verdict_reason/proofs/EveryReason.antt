@@ -21,6 +21,7 @@ use Rattle.dependence.proofs.Dependent.{fit_one_slot}
 use Rattle.session.specs.Answers.{nothing, Given}
 use Rattle.session.specs.Meaning.{RunOn, RunOf}
 use Rattle.session.specs.Meaning as run
+use Rattle.std.specs.Prelude.{Option, Some}
 use Rattle.verdict_reason.specs.declared.Cause.{Cause}
 use Rattle.verdict_reason.specs.Reasons.{cause_of, ReasonOn, log_refused, match, no_match, ReasonOf, pattern_refused, over_log}
 
@@ -46,7 +47,7 @@ events_first {es = es} r = trace.events_first no_event dependent fits es fit_one
 -- ---- of the call
 
 -- what it says beside the reason is what a run says
-pub says_run : {pattern bytes : List ℕ} {g : Given} {c : Cause} {events : List ℕ} → ReasonOf pattern bytes g c events → RunOf pattern bytes g
+pub says_run : {pattern bytes : List ℕ} {g : Given} {c : Option Cause} {events : List ℕ} → ReasonOf pattern bytes g c events → RunOf pattern bytes g
 says_run (pattern_refused q) = run.pattern_refused q
 says_run (over_log q (log_refused r d)) = run.over_log q r
 says_run (over_log q (match r m)) = run.over_log q r
@@ -59,7 +60,7 @@ reason_none e w (run.log_refused q) = refused_not_accepted (sym q ∙ e)
 reason_none {ss} e w (run.judged {r = r} q v f) =
     (refl, by_test r.matches (λ m. absurd (reason_suffices w (subst (HasMatch ss) (one_list (sym q ∙ e)) (v.matches.0 m)))) (λ m. m))
 
-one_on : {ss : List Slot} {bytes : List ℕ} {g h : Given} {c d : Cause} {events others : List ℕ} → ReasonOn ss bytes g c events → ReasonOn ss bytes h d others
+one_on : {ss : List Slot} {bytes : List ℕ} {g h : Given} {c d : Option Cause} {events others : List ℕ} → ReasonOn ss bytes g c events → ReasonOn ss bytes h d others
     → (c ≡ d) × (events ≡ others)
 one_on (log_refused r d) (log_refused s k) = (refl, refl)
 one_on (log_refused r d) (match s m) = (refl, refl)
@@ -72,10 +73,10 @@ one_on (no_match r e w) (match s m) = absurd (true≢false (sym m ∙ (reason_no
 one_on {ss} (no_match {events = events} {o = o} r e w) (no_match {events = others} {o = p} s f x) =
     let z = one_list (sym e ∙ f) in
     let q = reason_one (subst (λ (es : List Event). Reason ss es events o) z w) x in
-    (ap₂ (λ (ns : List ℕ) (v : Obstacle). cause_of (suc (length ns)) v) q.0 q.1, ap (in_places 0 slots) q.0)
+    (ap₂ (λ (ns : List ℕ) (v : Obstacle). Some (cause_of (suc (length ns)) v)) q.0 q.1, ap (in_places 0 slots) q.0)
 
 -- The cause that the call gives, and its events, are one; its verdict is a run's, of which `one_answer` says so.
-pub one_cause : {pattern bytes : List ℕ} {g h : Given} {c d : Cause} {events others : List ℕ} → ReasonOf pattern bytes g c events
+pub one_cause : {pattern bytes : List ℕ} {g h : Given} {c d : Option Cause} {events others : List ℕ} → ReasonOf pattern bytes g c events
     → ReasonOf pattern bytes h d others → (c ≡ d) × (events ≡ others)
 one_cause (pattern_refused p) (pattern_refused q) = (refl, refl)
 one_cause (pattern_refused p) (over_log q s) = refused_not_accepted (sym p ∙ q)

@@ -13,9 +13,12 @@ use Rattle.event.specs.Limits.{slots as slot_limit}
 use Rattle.event.specs.Places.{in_places}
 use Rattle.event.specs.Slots.{fits, no_event, no_slot}
 use Rattle.event_log.specs.declared.Pattern.{Pattern}
-use Rattle.event_log.specs.declared.LogRead.TheVariants as read
-use Rattle.event_log.specs.Whole.{accepted, read_log, passed, outcome_of, log_read_is}
-use Rattle.event_log.proofs.Answers.{told_accepted}
+use Rattle.std.specs.Prelude.{Option, Some, None, Result, Ok, Err, is_ok}
+use mathlib.Core.Bool.{false, false≢true}
+use Rattle.event.specs.declared.refusal.Refused.{Refused}
+use Rattle.command.specs.Bytes.{Bytes}
+use Rattle.event_log.specs.Whole.{accepted, read_log, read_pattern, Renders}
+use Rattle.event_log.proofs.Answers.{told_refused}
 use Rattle.event_log.proofs.Leading.{accepted_leads}
 use Rattle.trace.specs.Tuples.{Among}
 use Rattle.trace.proofs.First.{ChosenOf, StuckOf}
@@ -31,14 +34,18 @@ use Rattle.first.proofs.Filling.{ss_length}
 use Rattle.passes.specs.Passes.{Leads}
 use Rattle.slot_search.specs.declared.LogSearch.{LogSearch}
 use Rattle.slot_search.specs.Patterns.{Usable}
+use Rattle.slot_search.specs.Searching as search
 use Rattle.slot_search.specs.Searching.{SearchedIn}
+use Rattle.slot_search.proofs.Usable.{accepted_slots}
 use Rattle.session.specs.Answers.{Given}
 use Rattle.session.specs.Meaning.{RunOn}
-use Rattle.run.specs.Answers.{judged_is, judged_after}
-use Rattle.run.proofs.Verdict.{slots_of, searched_verdict}
+use Rattle.run.specs.declared.RunRefusal.{RunRefusal}
+use Rattle.run.specs.declared.RunRefusal.TheVariants as refusal
+use Rattle.run.specs.Answers.{judged_is, verdict_after}
+use Rattle.run.proofs.Verdict.{slots_of, searched_verdict, good_pattern}
 use Rattle.verdict_reason.specs.declared.Cause.{Cause}
-use Rattle.verdict_reason.specs.declared.Cause.TheVariants.{Decided}
-use Rattle.verdict_reason.specs.Reasons.{cause_of, ReasonOn, log_refused, match, no_match}
+use Rattle.verdict_reason.specs.declared.Reasoned.{Reasoned}
+use Rattle.verdict_reason.specs.Reasons.{cause_of, ReasonOn, log_refused, match, no_match, ReasonOf, pattern_refused, over_log, run_part, cause_part, events_part}
 use Rattle.verdict_reason.specs.Causes.{Stopped, Causes}
 use Rattle.verdict_reason.proofs.ByStamps.{numbered_take}
 
@@ -84,7 +91,7 @@ module _ {p : Pattern} (u : Usable p) {es : List Event} {s : Search} (h : Settle
 
   -- the reason, in numbers and places
   pub reason_given : {g : Given} {bytes : List ℕ} {cause : Cause} → RunOn ss bytes g → read_log bytes ≡ accepted es → Causes es slot s.found s.numbers cause
-      → ReasonOn ss bytes g cause s.numbers
+      → ReasonOn ss bytes g (Some cause) s.numbers
   reason_given {g} {bytes} {cause} r q c = go c.is
     where
       long : length (chosen_by s) ≡ s.found
@@ -98,38 +105,56 @@ module _ {p : Pattern} (u : Usable p) {es : List Event} {s : Search} (h : Settle
       why : Reason ss es (chosen_by s) c.obstacle
       why = stopped no_event dependent fits es fit_one_slot (subst (λ (left : List Slot). ChosenOf no_event dependent fits ss es (chosen_by s) left) left_are h.found.steps) c.stands
 
-      go : cause ≡ cause_of (s.found + 1) c.obstacle → ReasonOn ss bytes g cause s.numbers
+      go : cause ≡ cause_of (s.found + 1) c.obstacle → ReasonOn ss bytes g (Some cause) s.numbers
       go e =
-          subst (λ (ns : List ℕ). ReasonOn ss bytes g cause ns) (sym placed)
-          (subst (λ (x : Cause). ReasonOn ss bytes g x (in_places 0 slot_limit (chosen_by s))) (sym (e ∙ ap (λ (n : ℕ). cause_of n c.obstacle) (add-one s.found ∙ ap suc (sym long))))
+          subst (λ (ns : List ℕ). ReasonOn ss bytes g (Some cause) ns) (sym placed)
+          (subst (λ (x : Cause). ReasonOn ss bytes g (Some x) (in_places 0 slot_limit (chosen_by s))) (sym (e ∙ ap (λ (n : ℕ). cause_of n c.obstacle) (add-one s.found ∙ ap suc (sym long))))
           (no_match r q why))
 
 -- ---- what a search gives
 
-module _ {p : Pattern} (u : Usable p) {bytes : List ℕ} (r : LogSearch) (h : SearchedIn p.slots p.size bytes r) where
-  abbrev Gives : Cause → List ℕ → Type 0
-  Gives = ReasonOn (take p.size p.slots) bytes (judged_is (judged_after p.size r))
+module _ {p : Pattern} (u : Usable p) {bytes : List ℕ} (s : LogSearch) (h : SearchedIn p.slots p.size bytes (Ok s)) where
+  abbrev Gives : Option Cause → List ℕ → Type 0
+  Gives = ReasonOn (take p.size p.slots) bytes (judged_is (Ok (verdict_after p.size s.search)))
 
-  said : RunOn (take p.size p.slots) bytes (judged_is (judged_after p.size r))
-  said = searched_verdict u r h
+  said : RunOn (take p.size p.slots) bytes (judged_is (Ok (verdict_after p.size s.search)))
+  said = searched_verdict u (Ok s) h
 
-  pub when_refused : {k o : ℕ} → r.read ≡ read.LogRefused k o → Gives Decided (replicate slot_limit 0)
-  when_refused q = log_refused said (λ e. let z : ◌≡◌ {A = ℕ} 0 1 = cc in let f : ⊥ = omega arith in f)
+  pub when_found : s.search.found ≡ p.size → Gives None (replicate slot_limit 0)
+  when_found e = match said (rw (eq-eqb _ _ e) refl)
 
-  pub when_found : {n : ℕ} → r.read ≡ read.Accepted n → r.search.found ≡ p.size → Gives Decided (replicate slot_limit 0)
-  when_found q e = match said (rw (q, eq-eqb _ _ e) refl)
+  pub when_stopped : {cause : Cause} → ¬ (s.search.found ≡ p.size)
+      → ((es : List Event) → Leads bytes es s.events → Stopped es (get_or p.slots s.search.found no_slot) s.search.found s.search.numbers
+      → Causes es (get_or p.slots s.search.found no_slot) s.search.found s.search.numbers cause) → Gives (Some cause) s.search.numbers
+  when_stopped {cause} d causes = go h
+    where
+      go : SearchedIn p.slots p.size bytes (Ok s) → Gives (Some cause) s.search.numbers
+      go (search.searched {es = es} q n w settled) =
+          let l = accepted_leads bytes q in
+          let less : s.search.found < p.size = omega arith in
+          reason_given u settled less said q
+          (causes es (record { to = l.0; read = l.1; count = sym n; few = let f = l.2 in omega arith }) (stopped_there u settled less))
 
-  pub when_stopped : {n : ℕ} {cause : Cause} → r.read ≡ read.Accepted n → ¬ (r.search.found ≡ p.size)
-      → ((es : List Event) → Leads bytes es n → Stopped es (get_or p.slots r.search.found no_slot) r.search.found r.search.numbers
-      → Causes es (get_or p.slots r.search.found no_slot) r.search.found r.search.numbers cause) → Gives cause r.search.numbers
-  when_stopped {n} q d causes =
-      let a = sym (ap log_read_is q) ∙ h.answer in
-      let e = told_accepted (read_log bytes) a in
-      let l = accepted_leads bytes e.1 in
-      let w : passed n ≡ passed (length e.0) = a ∙ ap outcome_of e.1 in
-      let c : length e.0 ≡ n = cc in
-      let i = h.within in
-      let less : r.search.found < p.size = omega arith in
-      let settled = h.settled e.0 e.1 in
-      reason_given u settled less said e.1
-      (causes e.0 (record { to = l.0; read = l.1; count = c; few = let f = l.2 in omega arith }) (stopped_there u settled less))
+-- ---- the whole call, as it hands a refusal on
+
+abbrev pub Reasons : List ℕ → List ℕ → Result Reasoned RunRefusal → Type 0
+Reasons pattern bytes r = ReasonOf pattern bytes (judged_is (run_part r)) (cause_part r) (events_part r)
+
+pub refused_pattern : {pattern bytes : List ℕ} (r : Result Pattern Refused) (j : Result Reasoned RunRefusal) → Renders r (read_pattern pattern) → is_ok r ≡ false
+    → ((m : Refused) → r ≡ Err m → j ≡ Err (refusal.Pattern m)) → Reasons pattern bytes j
+refused_pattern (Ok p) j h z f = absurd (false≢true (sym z))
+refused_pattern {pattern} (Err m) j h z f = rw (f m refl) (pattern_refused (told_refused (read_pattern pattern) h.answer))
+
+module _ (pattern : List ℕ) (p : Pattern) (h : Renders (Ok p) (read_pattern pattern)) (b : Bytes pattern) {bytes : List ℕ} where
+  pub over : {g : Given} {c : Option Cause} {events : List ℕ} → ReasonOn (take p.size p.slots) bytes g c events → ReasonOf pattern bytes g c events
+  over {g} {c} {events} r =
+      let o = accepted_slots (λ ss. ReasonOn ss bytes g c events) pattern h.answer
+      (subst (λ (x : Pattern). ReasonOn (take x.size x.slots) bytes g c events) h.pattern r) in
+      over_log o.1 o.2
+
+  pub refused_log : (r : Result LogSearch Refused) (j : Result Reasoned RunRefusal) → SearchedIn p.slots p.size bytes r → is_ok r ≡ false
+      → ((m : Refused) → r ≡ Err m → j ≡ Err (refusal.Log m)) → Reasons pattern bytes j
+  refused_log (Ok s) j w z f = absurd (false≢true (sym z))
+  refused_log (Err m) j w z f =
+      rw (f m refl)
+      (over (log_refused (searched_verdict (good_pattern pattern p h b) (Err m) w) (λ e. let z : ◌≡◌ {A = ℕ} 0 1 = cc in let f : ⊥ = omega arith in f)))

@@ -1,26 +1,46 @@
-use native.Mathlib.Omega.{arith}
-use mathlib.Core.Path.{sym, ap, ◌∙◌}
+use borrow.Author.Rules.{rules}
+use mathlib.Core.Path.{◌≡◌}
+use mathlib.Core.Bool.{false}
+use Rattle.std.specs.Prelude.{Ok, is_ok}
 use Rattle.command.specs.Bytes.{Bytes}
-use Rattle.event_log.specs.Whole.{read_pattern, pattern_answer_is}
-use Rattle.event_log.proofs.Answers.{told_refused}
-use Rattle.run.specs.Answers.{judged_is}
-use Rattle.slot_search.proofs.Usable.{accepted_usable, accepted_slots}
-use Rattle.verdict_reason.specs.Reasons.{ReasonOn, pattern_refused, over_log}
+use Rattle.run.proofs.Verdict.{good_pattern}
+use Rattle.verdict_reason.proofs.Stopping.{refused_pattern, refused_log, over, when_found, when_stopped}
 use Rattle.verdict_reason.proofs.reason.Goals as goal
 
-pub reason_on-requires : goal.reason_on-requires
-reason_on-requires c = let read = c.read_pattern-read.ensures in
-    let is-bytes : Bytes c.args.pattern.now = λ k. omega (arith, c.type_inv.pattern k) in
-    rw read.pattern (accepted_usable c.args.pattern.now is-bytes (sym (ap pattern_answer_is c.in-Accepted.is) ∙ read.answer))
+pub returns-in_err-p : goal.returns-in_err-p
+returns-in_err-p c =
+    let z : is_ok c.read_pattern.result ≡ false = search rules in
+    refused_pattern c.read_pattern.result _ c.read_pattern.ensures z (λ m q. search rules)
 
-pub returns-in-PatternRefused : goal.returns-in-PatternRefused
-returns-in-PatternRefused c = rw (c.decided.ensures, c.pattern_refused.ensures)
-    (pattern_refused (told_refused (read_pattern c.args.pattern.now) (sym (ap pattern_answer_is c.in-PatternRefused.is) ∙ c.read_pattern-read.ensures.answer)))
+pub search-requires : goal.search-requires
+search-requires c =
+    let is-bytes : Bytes c.args.pattern.now = λ k. (c.type_inv.pattern k).fits in
+    let q : c.read_pattern.result ≡ Ok c.in_ok-p.p = search rules in
+    good_pattern c.args.pattern.now c.in_ok-p.p (rw q at c.read_pattern.ensures) is-bytes
 
-pub returns-in-Accepted : goal.returns-in-Accepted
-returns-in-Accepted c = let a = c.args in
-    let r = c.reason_on.result in
-    let read = c.read_pattern-read.ensures in
-    let told = sym (ap pattern_answer_is c.in-Accepted.is) ∙ read.answer in
-    let over = accepted_slots (λ ss. ReasonOn ss a.log.now (judged_is r.judged) r.cause r.events) a.pattern.now told (rw read.pattern at c.reason_on.ensures) in
-    over_log over.1 over.2
+pub returns-in_err-searched : goal.returns-in_err-searched
+returns-in_err-searched c =
+    let is-bytes : Bytes c.args.pattern.now = λ k. (c.type_inv.pattern k).fits in
+    let q : c.read_pattern.result ≡ Ok c.in_ok-p.p = search rules in
+    let z : is_ok c.search.result ≡ false = search rules in
+    refused_log c.args.pattern.now c.in_ok-p.p (rw q at c.read_pattern.ensures) is-bytes c.search.result _ c.search.ensures z (λ m w. search rules)
+
+pub returns-then-k-p : goal.returns-then-k-p
+returns-then-k-p c =
+    let is-bytes : Bytes c.args.pattern.now = λ k. (c.type_inv.pattern k).fits in
+    let q : c.read_pattern.result ≡ Ok c.in_ok-p.p = search rules in
+    let s : c.search.result ≡ Ok c.in_ok-searched.searched = search rules in
+    let h = rw q at c.read_pattern.ensures in
+    let u = good_pattern c.args.pattern.now c.in_ok-p.p h is-bytes in
+    rw c.judge-verdict.ensures
+    (over c.args.pattern.now c.in_ok-p.p h is-bytes (when_found u c.in_ok-searched.searched (rw s at c.search.ensures) c.if-k-p.true))
+
+pub returns : goal.returns
+returns c =
+    let is-bytes : Bytes c.args.pattern.now = λ k. (c.type_inv.pattern k).fits in
+    let q : c.read_pattern.result ≡ Ok c.in_ok-p.p = search rules in
+    let s : c.search.result ≡ Ok c.in_ok-searched.searched = search rules in
+    let h = rw q at c.read_pattern.ensures in
+    let u = good_pattern c.args.pattern.now c.in_ok-p.p h is-bytes in
+    rw c.judge-verdict.ensures
+    (over c.args.pattern.now c.in_ok-p.p h is-bytes (when_stopped u c.in_ok-searched.searched (rw s at c.search.ensures) c.if-k-p.false c.cause_of-cause.ensures))
