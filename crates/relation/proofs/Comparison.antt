@@ -4,7 +4,7 @@ use Prim.Native.Nat.{ℕ, ◌≤◌}
 use native.Mathlib.Nat.{le_refl}
 use mathlib.Core.Path.{◌≡◌, refl, sym, ap, subst, ◌∙◌}
 use mathlib.Core.Logic.{◌⊎◌, inl, inr, ◌↔◌}
-use mathlib.Core.Bool.{Bool, true, cond, and-eq-true_iff}
+use mathlib.Core.Bool.{true, and-eq-true_iff}
 use mathlib.Core.List.{List, ◌++◌}
 use lib.ListN.{get_or}
 use borrow.Author.Tests.{eqb-true, eq-eqb, lt-ltb, le-leb, leb-true}
@@ -18,8 +18,7 @@ use Rattle.dependence.specs.Order.{ComesBefore, thread_of, IsStamp}
 use Rattle.dependence.proofs.Dependent.{one_thread}
 use Rattle.clock.proofs.Later.{entry_stays}
 use Rattle.relation.specs.declared.StampedEvent.{StampedEvent}
-use Rattle.relation.specs.declared.Relation.{Relation}
-use Rattle.relation.specs.declared.Relation.TheVariants.{Same, Before, After, Free}
+use Rattle.relation.specs.declared.Relation.TheVariants.{Same, Before}
 use Rattle.relation.specs.Relation.{Relates, IsStamped}
 use Rattle.relation.specs.Compared.{one_event, comes_before, compared}
 use Rattle.relation.proofs.Relations.{comes_both, by_three, yes_is_same_or_before}
@@ -90,15 +89,6 @@ yes_by_stamps {log} {i} {j} {a} {b} p q = (there, back)
     back : (compared a b ≡ Same) ⊎ (compared a b ≡ Before) → comes_before a.thread a.place b.stamp ≡ true
     back (inl h) = (comes_by_place p q).1 ((yes_is_same_or_before log p.numbered).1 (inl (subst (Relates log i j) h (compared_right p q))))
     back (inr h) = (comes_by_place p q).1 (subst (Relates log i j) h (compared_right p q)).0
-
--- what the program's three tests gave, and both clauses of its contract
-pub by_tests : (a b : StampedEvent) {x y z : Bool} → one_event a b ≡ x → comes_before a.thread a.place b.stamp ≡ y
-    → comes_before b.thread b.place a.stamp ≡ z → (r : Relation) → r ≡ cond x Same (cond y Before (cond z After Free))
-    → (r ≡ compared a b) × ((log : List Event) (i j : ℕ) → IsStamped log i a → IsStamped log j b → Relates log i j r)
-by_tests a b p q k r e = (exact, λ log i j g h. rw exact (compared_right g h))
-  where
-    exact : r ≡ compared a b
-    exact = rw (p, q, k) e
 
 -- events that follow change nothing of it
 pub stamped_stays : (log later : List Event) {i : ℕ} {s : StampedEvent} → IsStamped log i s → IsStamped (log ++ later) i s

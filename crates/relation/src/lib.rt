@@ -46,16 +46,12 @@ pub fn compare(first: StampedEvent, second: StampedEvent) -> Relation
 fn is_one(a: StampedEvent, b: StampedEvent) -> bool
     ensures { result ≡ one_event a b }
 {
-    (a.thread == b.thread) & (a.place == b.place)
+    a.thread == b.thread && a.place == b.place
 }
 
 // Whether the one comes before the other or is it: the other's stamp then counts as far as its place.
 fn comes_before(a: StampedEvent, b: StampedEvent) -> bool
     ensures { result ≡ comes_before a.thread a.place b.stamp }
 {
-    if a.thread >= event::THREADS {
-        return false;
-    }
-    let later = b.stamp;
-    a.place <= clock::count_of(a.thread, later)
+    a.thread < event::THREADS && a.place <= clock::count_of(a.thread, b.stamp)
 }

@@ -1,27 +1,22 @@
-use mathlib.Core.Path.{refl, sym, ◌∙◌}
+use borrow.Author.Rules.{rules}
+use mathlib.Core.Path.{◌≡◌}
 use Rattle.relation.specs.declared.Relation.TheVariants.{Same, Before, After, Free}
-use Rattle.relation.proofs.Comparison.{by_tests}
+use Rattle.relation.specs.Compared.{compared}
+use Rattle.relation.proofs.Comparison.{compared_right}
 use Rattle.relation.proofs.compare.Goals as goal
 
-pub returns-then-is_one : goal.returns-then-is_one
-returns-then-is_one c =
-    let p = by_tests c.args.first c.args.second (sym c.is_one.ensures ∙ c.if-is_one.true) refl refl Same refl in record { exact = p.0; order = p.1 }
+pub returns-then-is_one-clause-order : goal.returns-then-is_one-clause-order
+returns-then-is_one-clause-order c =
+    let e : compared c.args.first c.args.second ≡ Same = search rules in λ log i j p q. rw e at (compared_right p q)
 
-pub returns-then-comes_before : goal.returns-then-comes_before
-returns-then-comes_before c =
-    let p = by_tests c.args.first c.args.second (sym c.is_one.ensures ∙ c.if-is_one.false) (sym c.comes_before.ensures ∙ c.if-comes_before.true) refl Before refl in
-    record { exact = p.0; order = p.1 }
+pub returns-then-comes_before-clause-order : goal.returns-then-comes_before-clause-order
+returns-then-comes_before-clause-order c =
+    let e : compared c.args.first c.args.second ≡ Before = search rules in λ log i j p q. rw e at (compared_right p q)
 
-pub returns-then-comes_before-2 : goal.returns-then-comes_before-2
-returns-then-comes_before-2 c =
-    let before = sym c.comes_before.ensures ∙ c.if-comes_before.false in
-    let after = sym c.comes_before-2.ensures ∙ c.if-comes_before-2.true in
-    let p = by_tests c.args.first c.args.second (sym c.is_one.ensures ∙ c.if-is_one.false) before after After refl in
-    record { exact = p.0; order = p.1 }
+pub returns-then-comes_before-2-clause-order : goal.returns-then-comes_before-2-clause-order
+returns-then-comes_before-2-clause-order c =
+    let e : compared c.args.first c.args.second ≡ After = search rules in λ log i j p q. rw e at (compared_right p q)
 
-pub returns : goal.returns
-returns c =
-    let before = sym c.comes_before.ensures ∙ c.if-comes_before.false in
-    let after = sym c.comes_before-2.ensures ∙ c.if-comes_before-2.false in
-    let p = by_tests c.args.first c.args.second (sym c.is_one.ensures ∙ c.if-is_one.false) before after Free refl in
-    record { exact = p.0; order = p.1 }
+pub returns-clause-order : goal.returns-clause-order
+returns-clause-order c =
+    let e : compared c.args.first c.args.second ≡ Free = search rules in λ log i j p q. rw e at (compared_right p q)
