@@ -1,12 +1,15 @@
 -- Some events of a log read into a batch, and where that leaves a reader.
-use Prim.Native.Nat.{ℕ, suc, ◌+◌, ◌-◌, ◌<◌, ◌≤◌}
+use Prim.Native.Nat.{ℕ, ◌+◌, ◌-◌, ◌<◌, ◌≤◌}
 use native.Mathlib.Numerals.{add-one}
 use native.Mathlib.Omega.{arith}
 use mathlib.Core.Path.{◌≡◌, refl, sym, ap, subst, ◌∙◌}
-use mathlib.Core.List.{List, [], ◌∷◌, ◌++◌, reverse, reverse-append, reverse-reverse}
+use mathlib.Core.List.{List, [], ◌∷◌, ◌++◌, reverse, reverse-append}
 use lib.ListN.{length, length-append, length-reverse, take, set}
 use lib.Seq.{take-suc-set, length-take-le}
+use Rattle.std.specs.Prelude.{Some, None, Ok, Err}
 use Rattle.event.specs.declared.Event.{Event}
+use Rattle.event.specs.declared.refusal.Refused.{Refused}
+use Rattle.event.specs.Refusals.{refusal_number}
 use Rattle.event.specs.Limits.{events}
 use Rattle.rules.specs.State.{StateOf}
 use Rattle.rules.proofs.StateLaws.{clear}
@@ -17,36 +20,27 @@ use Rattle.event_log.proofs.Rows as rows
 use Rattle.event_log.proofs.LogWalk.{Going, step_taken, step_onward}
 use Rattle.row_batch.specs.Batch.{batch, events_of}
 use Rattle.row_pass.specs.declared.Filled.{Filled}
-use Rattle.row_pass.specs.declared.Stop.{Stop}
-use Rattle.row_pass.specs.declared.Stop.TheVariants.{More, End, Refused}
-use Rattle.row_pass.specs.Passing.{filled_of, Steps, no_step, one_step, StopsAt, full, at_end, at_refusal, FilledFrom}
-
--- what is left of a stop that `let .. else` found to be neither a full batch nor a refusal: the end
-pub the_end : (s : Stop) → ((next : ℕ) → s ≡ More next → ⊥) → ((k o : ℕ) → s ≡ Refused k o → ⊥) → s ≡ End
-the_end (More next) p q = absurd (p next refl)
-the_end End p q = refl
-the_end (Refused k o) p q = absurd (q k o refl)
+use Rattle.row_pass.specs.Passing.{Stop, filled_of, Steps, no_step, one_step, StopsAt, full, at_end, at_refusal, FilledFrom}
 
 -- the end and a refusal are no full batch
-not_full_end : {A : Type 0} {at : ℕ} → End ≡ More at → A
-not_full_end {at = at} e = absurd (let z : ◌≡◌ {A = Stop} End (More at) = e in let y : ◌≡◌ {A = ℕ} 0 1 = cc in let f : ⊥ = omega arith in f)
+not_full_end : {A : Type 0} {at : ℕ} → ◌≡◌ {A = Stop} (Ok None) (Ok (Some at)) → A
+not_full_end {at = at} e = absurd (let y : ◌≡◌ {A = ℕ} 0 1 = cc in let f : ⊥ = omega arith in f)
 
-not_full_refusal : {A : Type 0} {k o at : ℕ} → Refused k o ≡ More at → A
-not_full_refusal {k = k} {o = o} {at = at} e = absurd (let z : ◌≡◌ {A = Stop} (Refused k o) (More at) = e in let y : ◌≡◌ {A = ℕ} 0 1 = cc in let f : ⊥ = omega arith in f)
+not_full_refusal : {A : Type 0} {r : Refused} {at : ℕ} → ◌≡◌ {A = Stop} (Err r) (Ok (Some at)) → A
+not_full_refusal {r = r} {at = at} e = absurd (let y : ◌≡◌ {A = ℕ} 0 1 = cc in let f : ⊥ = omega arith in f)
 
-not_end : {A : Type 0} {k o : ℕ} → Refused k o ≡ End → A
-not_end {k = k} {o = o} e = absurd (let z : ◌≡◌ {A = Stop} (Refused k o) End = e in let y : ◌≡◌ {A = ℕ} 0 1 = cc in let f : ⊥ = omega arith in f)
+not_end : {A : Type 0} {r : Refused} → ◌≡◌ {A = Stop} (Err r) (Ok None) → A
+not_end {r = r} e = absurd (let y : ◌≡◌ {A = ℕ} 0 1 = cc in let f : ⊥ = omega arith in f)
 
 -- the next place of a full batch, and the refusal of a command
 unfoldable place_in : Stop → ℕ
-place_in (More next) = next
-place_in End = 0
-place_in (Refused k o) = 0
+place_in (Ok (Some next)) = next
+place_in (Ok None) = 0
+place_in (Err r) = 0
 
 unfoldable refused_in : Stop → Reading Event
-refused_in (More next) = closed
-refused_in End = closed
-refused_in (Refused k o) = refused_at k o
+refused_in (Ok stop) = closed
+refused_in (Err r) = refused_at (refusal_number r.reason) r.offset
 
 -- ---- the events of a batch under way, k of them read
 
@@ -57,8 +51,8 @@ pub record Reading-on (bytes : List ℕ) (from : ℕ) (past events : List Event)
   pub are : taken ≡ reverse (take k events) ++ past
   pub holds : StateOf taken state
 
-pub started : (bytes : List ℕ) (from : ℕ) (past events : List Event) (state : List ℕ) → StateOf past state → Reading-on bytes from past events state from 0
-started bytes from past events state h = record { taken = past; steps = no_step; are = refl; holds = h }
+pub started : (bytes : List ℕ) (from : ℕ) (past es : List Event) (state : List ℕ) → StateOf past state → Reading-on bytes from past es state from 0
+started bytes from past es state h = record { taken = past; steps = no_step; are = refl; holds = h }
 
 module _ {bytes : List ℕ} {from : ℕ} {past events : List Event} {state : List ℕ} {at k : ℕ} (low : k ≤ batch) (size : length events ≡ batch) (r : Reading-on bytes from past events state at k) where
   inside : k ≤ length events
@@ -85,18 +79,19 @@ module _ {bytes : List ℕ} {from : ℕ} {past events : List Event} {state : Lis
       }
 
   -- the reading stops here
-  stopped : (stop : Stop) (after : List ℕ) → StateOf r.taken after → StopsAt bytes at r.taken stop → (stop ≡ More at → 0 < k) → FilledFrom bytes from past (filled_of events k stop after)
+  stopped : (stop : Stop) (after : List ℕ) → StateOf r.taken after → StopsAt bytes at r.taken stop → (stop ≡ Ok (Some at) → 0 < k) → FilledFrom bytes from past (filled_of events k stop after)
   stopped stop after h s some =
       record { to = at; taken = r.taken; steps = r.steps; events = r.are; many = length-take-le k events inside; state = h; stops = s; some = some }
 
-  pub ends : {outcome : Reading Event} {after : List ℕ} → StepAfter bytes r.taken at outcome after → outcome ≡ closed → FilledFrom bytes from past (filled_of events k End after)
-  ends {after = after} s q = stopped End after (subst (λ (o : Reading Event). StateOf (taken_then r.taken o) after) q s.holds) (at_end (sym s.is ∙ q)) not_full_end
+  pub ends : {outcome : Reading Event} {after : List ℕ} → StepAfter bytes r.taken at outcome after → outcome ≡ closed → FilledFrom bytes from past (filled_of events k (Ok None) after)
+  ends {after = after} s q = stopped (Ok None) after (subst (λ (o : Reading Event). StateOf (taken_then r.taken o) after) q s.holds) (at_end (sym s.is ∙ q)) not_full_end
 
-  pub breaks : {outcome : Reading Event} {after : List ℕ} {m o : ℕ} → StepAfter bytes r.taken at outcome after → outcome ≡ refused_at m o → FilledFrom bytes from past (filled_of events k (Refused m o) after)
-  breaks {after = after} s q = stopped (Refused _ _) after (subst (λ (o : Reading Event). StateOf (taken_then r.taken o) after) q s.holds) (at_refusal (sym s.is ∙ q)) not_full_refusal
+  pub breaks : {outcome : Reading Event} {after : List ℕ} (x : Refused) → StepAfter bytes r.taken at outcome after → outcome ≡ refused_at (refusal_number x.reason) x.offset
+      → FilledFrom bytes from past (filled_of events k (Err x) after)
+  breaks {after = after} x s q = stopped (Err x) after (subst (λ (o : Reading Event). StateOf (taken_then r.taken o) after) q s.holds) (at_refusal (sym s.is ∙ q)) not_full_refusal
 
-  pub is_full : 0 < k → FilledFrom bytes from past (filled_of events k (More at) state)
-  is_full some = stopped (More at) state r.holds full (λ e. some)
+  pub is_full : 0 < k → FilledFrom bytes from past (filled_of events k (Ok (Some at)) state)
+  is_full some = stopped (Ok (Some at)) state r.holds full (λ e. some)
 
 -- ---- a reader after some steps
 
@@ -134,30 +129,30 @@ module _ {bytes state : List ℕ} {count at : ℕ} {past : List Event} {r : Fill
   pub few : count ≤ events → count + r.batch.size ≤ events
   few l = let n = all_taken in let c = g.count in let t = few_events f.steps (omega (arith, l, c)) in omega (arith, n, t)
 
-  pub ended : r.stop ≡ End → accepted (reverse f.taken) ≡ read_log bytes
+  pub ended : r.stop ≡ Ok None → accepted (reverse f.taken) ≡ read_log bytes
   unfolding read_log_under
   ended q = go f.stops q
     where
-      go : {stop : Stop} → StopsAt bytes f.to f.taken stop → stop ≡ End → accepted (reverse f.taken) ≡ read_log bytes
+      go : {stop : Stop} → StopsAt bytes f.to f.taken stop → stop ≡ Ok None → accepted (reverse f.taken) ≡ read_log bytes
       go full q = not_full_end (sym q)
       go (at_end z) q = rows.at_end (going_on g.row f.steps) z
       go (at_refusal z) q = not_end q
 
-  pub broken : {k o : ℕ} → r.stop ≡ Refused k o → refused k o ≡ read_log bytes
+  pub broken : (x : Refused) → r.stop ≡ Err x → refused (refusal_number x.reason) x.offset ≡ read_log bytes
   unfolding read_log_under refused_in
-  broken q = go f.stops q
+  broken x q = go f.stops q
     where
-      go : {stop : Stop} {k o : ℕ} → StopsAt bytes f.to f.taken stop → stop ≡ Refused k o → refused k o ≡ read_log bytes
+      go : {stop : Stop} → StopsAt bytes f.to f.taken stop → stop ≡ Err x → refused (refusal_number x.reason) x.offset ≡ read_log bytes
       go full q = not_full_refusal (sym q)
       go (at_end z) q = not_end (sym q)
-      go {k = k} {o = o} (at_refusal z) q = rows.broken (going_on g.row f.steps) k o (z ∙ ap refused_in q)
+      go (at_refusal z) q = rows.broken (going_on g.row f.steps) (refusal_number x.reason) x.offset (z ∙ ap refused_in q)
 
   -- a full batch: the next place is where the steps lead
-  pub goes_to : {next : ℕ} → r.stop ≡ More next → f.to ≡ next
+  pub goes_to : {next : ℕ} → r.stop ≡ Ok (Some next) → f.to ≡ next
   unfolding place_in
   goes_to q = go f.stops q
     where
-      go : {stop : Stop} {next : ℕ} → StopsAt bytes f.to f.taken stop → stop ≡ More next → f.to ≡ next
+      go : {stop : Stop} {next : ℕ} → StopsAt bytes f.to f.taken stop → stop ≡ Ok (Some next) → f.to ≡ next
       go full q = ap place_in q
       go (at_end z) q = not_full_end q
       go (at_refusal z) q = not_full_refusal q

@@ -1,6 +1,8 @@
 -- A log gone through once, a batch of events at a time: what is read of it, how it ends, and what its events make of the first sessions.
-use Rattle.std.specs.Prelude.{ℕ, ◌<◌, ◌≡◌, List, [], ◌∷◌, ◌++◌, reverse, get_or, length}
+use Rattle.std.specs.Prelude.{ℕ, ◌<◌, ◌≡◌, List, [], ◌∷◌, ◌++◌, reverse, get_or, length, Option, Some, None, Result, Ok, Err}
 use Rattle.event.specs.declared.Event.{Event}
+use Rattle.event.specs.declared.refusal.Refused.{Refused}
+use Rattle.event.specs.Refusals.{refusal_number}
 use Rattle.rules.specs.Accepted.{Accepted}
 use Rattle.rules.specs.State.{StateOf}
 use Rattle.command.specs.Reading.{command, closed, refused as refused_at}
@@ -8,13 +10,15 @@ use Rattle.event_log.specs.Whole.{accepted, refused, step_after, read_log}
 use Rattle.session.specs.declared.Session.{Session}
 use Rattle.session.specs.Model.{fresh_on, handed_all}
 use Rattle.row_batch.specs.Batch.{events_of}
-use Rattle.row_pass.specs.declared.End.{End}
-use Rattle.row_pass.specs.declared.End.TheVariants as ended
 use Rattle.row_pass.specs.declared.Filled.{Filled}
-use Rattle.row_pass.specs.declared.Stop.{Stop}
-use Rattle.row_pass.specs.declared.Stop.TheVariants as stop
+use Rattle.row_pass.specs.declared.LogFault.{LogFault}
+use Rattle.row_pass.specs.declared.LogFault.TheVariants as fault
 
 -- ---- some events of a log
+
+-- where some reading stops: at the next place of a full batch, at the end of the log, or at a refusal
+abbrev pub Stop : Type 0
+Stop = Result (Option ℕ) Refused
 
 -- so many of these events, and what the reading stopped at
 abbrev pub filled_of : List Event → ℕ → Stop → List ℕ → Filled
@@ -28,9 +32,9 @@ pub data Steps (bytes : List ℕ) (from : ℕ) (past : List Event) : ℕ → Lis
 
 -- where the reading stopped
 pub data StopsAt (bytes : List ℕ) (at : ℕ) (taken : List Event) : Stop → Type 0 where
-  full : StopsAt bytes at taken (stop.More at)
-  at_end : step_after bytes taken at ≡ closed → StopsAt bytes at taken stop.End
-  at_refusal : {k o : ℕ} → step_after bytes taken at ≡ refused_at k o → StopsAt bytes at taken (stop.Refused k o)
+  full : StopsAt bytes at taken (Ok (Some at))
+  at_end : step_after bytes taken at ≡ closed → StopsAt bytes at taken (Ok None)
+  at_refusal : {r : Refused} → step_after bytes taken at ≡ refused_at (refusal_number r.reason) r.offset → StopsAt bytes at taken (Err r)
 
 -- what is read from a place on: the events of the batch, and the state of the rules then; a full batch is not empty
 pub record FilledFrom (bytes : List ℕ) (from : ℕ) (past : List Event) (r : Filled) : Type 0 where
@@ -41,14 +45,14 @@ pub record FilledFrom (bytes : List ℕ) (from : ℕ) (past : List Event) (r : F
   pub many : length (events_of r.batch) ≡ r.batch.size
   pub state : StateOf taken r.state
   pub stops : StopsAt bytes to taken r.stop
-  pub some : r.stop ≡ stop.More to → 0 < r.batch.size
+  pub some : r.stop ≡ Ok (Some to) → 0 < r.batch.size
 
 -- ---- the whole log
 
 -- how a log ends
-pub data EndsAs (log : List ℕ) : End → Type 0 where
-  broken : {k o : ℕ} → read_log log ≡ refused k o → EndsAs log (ended.Refused k o)
-  whole : {es : List Event} → Accepted es → read_log log ≡ accepted es → EndsAs log ended.Read
+pub data EndsAs (log : List ℕ) : Result Unit LogFault → Type 0 where
+  broken : {r : Refused} → read_log log ≡ refused (refusal_number r.reason) r.offset → EndsAs log (Err (fault.Refused r))
+  whole : {es : List Event} → Accepted es → read_log log ≡ accepted es → EndsAs log (Ok tt)
 
 -- past the end of the list, for `get_or`
 abbrev pub past_session : Session

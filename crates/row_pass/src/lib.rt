@@ -9,27 +9,21 @@ ghost use Rattle.event_log.specs.Whole.{accepted, read_log};
 ghost use Rattle.session_row.specs.Row.{most};
 ghost use Rattle.row_pass.specs.Passing.{filled_of, FilledFrom, EndsAs, PassedBy};
 
+use event::refusal::Refused;
 use event::{Event, Operation};
-use event_log::Stepped;
 use row_batch::{BATCH, Batch};
 use session::Session;
 use session_row::PLACES;
 
-// How the log ended: it is too long, which is for those to say that don't go through it, refused, or read to its end.
+// Why a log is not read to its end: it is too long, which is for those to say that don't go through it; or refused.
 #[derive(Clone, Copy)]
-pub enum End {
+pub enum LogFault {
     TooLong,
-    Refused { number: u8, offset: usize },
-    Read,
+    Refused(Refused),
 }
 
-// Where the reading of some events stopped: as many were read as a batch holds, the log ended, or the next command is refused.
-#[derive(Clone, Copy)]
-enum Stop {
-    More { next: usize },
-    End,
-    Refused { number: u8, offset: usize },
-}
+// Where the reading of some events stopped: at the next place, with as many read as a batch holds; at the end of the log; or at a command that is refused.
+type Stop = Result<Option<usize>, Refused>;
 
 // Some events of a log, where the reading stopped, and the state of the rules then.
 #[derive(Clone, Copy)]
@@ -42,7 +36,7 @@ struct Filled {
 // A log gone through: how it ended, and the sessions afterwards.
 #[derive(Clone, Copy)]
 pub struct Passed {
-    pub end: End,
+    pub end: Result<(), LogFault>,
     pub sessions: [Session; PLACES],
 }
 
@@ -59,24 +53,23 @@ pub fn pass(sessions: [Session; PLACES], n: usize, log: &[u8]) -> Passed
     loop {
         let filled = fill(log, at, taken, state);
         let batch = filled.batch;
-        let stop = filled.stop;
-        let then = filled.state;
-        let handed = row_batch::hand_batch(held, n, batch);
-        let after = handed.sessions;
-        held = after;
-        let Stop::More { next } = stop else {
-            let Stop::Refused { number, offset } = stop else {
+        held = row_batch::hand_batch(held, n, batch).sessions;
+        let next = match filled.stop {
+            Ok(Some(next)) => next,
+            Ok(None) => {
                 return Passed {
-                    end: End::Read,
+                    end: Ok(()),
                     sessions: held,
                 };
-            };
-            return Passed {
-                end: End::Refused { number, offset },
-                sessions: held,
-            };
+            }
+            Err(refused) => {
+                return Passed {
+                    end: Err(LogFault::Refused(refused)),
+                    sessions: held,
+                };
+            }
         };
-        state = then;
+        state = filled.state;
         taken += batch.size;
         at = next;
     }
@@ -95,17 +88,15 @@ fn fill(log: &[u8], from: usize, before: usize, held: [u8; rules::STATE]) -> Fil
     let mut state = held;
     let mut at = from;
     for k in 0..BATCH {
-        let found = event_log::step(log, at, &mut state, before + k);
-        let Stepped::Event { event, next } = found else {
-            let Stepped::LogRefused { number, offset } = found else {
-                return stopped(events, k, Stop::End, state);
-            };
-            return stopped(events, k, Stop::Refused { number, offset }, state);
+        let (event, next) = match event_log::step(log, at, &mut state, before + k) {
+            Ok(Some(read)) => read,
+            Ok(None) => return stopped(events, k, Ok(None), state),
+            Err(refused) => return stopped(events, k, Err(refused), state),
         };
         events[k] = event;
         at = next;
     }
-    stopped(events, BATCH, Stop::More { next: at }, state)
+    stopped(events, BATCH, Ok(Some(at)), state)
 }
 
 // The events read so far, and what the reading stopped at.

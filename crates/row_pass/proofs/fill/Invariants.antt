@@ -1,15 +1,11 @@
 use Prim.Native.Nat.{◌-◌, ◌≤◌}
-use native.Mathlib.Omega.{arith}
-use mathlib.Core.Path.{◌≡◌, refl, sym, ap, ◌∙◌}
+use mathlib.Core.Path.{◌≡◌}
 use mathlib.Core.List.{List}
-use lib.ListN.{length, length-set}
-use borrow.Author.Rules.{rules}
+use lib.ListN.{length}
 use Rattle.event.specs.declared.Event.{Event}
 use Rattle.rules.specs.State.{StateOf}
-use Rattle.event_log.specs.Step.{stepped_is}
-use Rattle.event_log.proofs.Steps.{the_end}
 use Rattle.row_batch.specs.Batch.{batch}
-use Rattle.row_pass.proofs.Filling.{Reading-on, started, made, next_event, ends, breaks, is_full}
+use Rattle.row_pass.proofs.Filling.{Reading-on}
 use Rattle.row_pass.proofs.fill.Given as goal
 
 abbrev pub invariant-loop-k : goal.invariant-loop-k
