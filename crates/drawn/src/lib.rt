@@ -5,9 +5,8 @@
 ghost use Rattle.std.specs.Prelude.{◌≡◌, ◌≤◌, length};
 ghost use Rattle.drawn.specs.Drawing.{is_accepted, place_after};
 
+use event::refusal::Refused;
 use event::{Event, Operation};
-use event_log::LogRead;
-use writer::Written;
 
 // A log under way: the place after it, and the last number drawn.
 #[derive(Clone, Copy)]
@@ -22,13 +21,36 @@ const LAST_VARIABLE: u8 = event::VARIABLES - 1;
 
 const LAST_LOCK: u8 = event::LOCKS - 1;
 
+// What a log has many of: reads; acquires and releases; forks and joins, each with marks; or marks, reads and writes of one object, so that events repeat.
+#[derive(Clone, Copy, PartialEq, Eq)]
+enum Mix {
+    Even,
+    Reads,
+    Locks,
+    Threads,
+    Repeats,
+}
+
+// An operation before its object is drawn. Writes at two heights, as these play no part in order or pattern.
+#[derive(Clone, Copy)]
+enum Kind {
+    Read,
+    High,
+    Low,
+    Acquire,
+    Release,
+    Fork,
+    Join,
+    Mark,
+}
+
 // How a log is drawn: how often an event is drawn anew, whether numbers are the highest, among how many threads, and its mix.
 #[derive(Clone, Copy)]
 struct Manner {
     tries: u32,
     high: bool,
     threads: u8,
-    mix: u8,
+    mix: Mix,
 }
 
 // Writes a log of at most seven events; the place after it, and the last number drawn.
@@ -40,18 +62,18 @@ pub fn make(buffer: &mut [u8], drawn: u32) -> Draft
         tries: 1 + shape / 2097152 % 8,
         high: shape / 1048576 % 2 == 1,
         threads: if shape / 524288 % 2 == 1 { 2 } else { 4 },
-        mix: 0,
+        mix: Mix::Even,
     };
     let d = events(buffer, shape, 1 + shape / 16777216 % 7, manner);
     closed(buffer, d)
 }
 
-// The same with four to seven events of one mix: 1 has many reads, 2 many acquires and releases, 3 many forks and joins, each with marks; 4 has marks, reads and writes of one object,
-// so that events repeat.
+// The same with four to seven events of one mix: 1 has many reads, 2 many acquires and releases, 3 many forks and joins, 4 repeats events.
 pub fn make_mixed(buffer: &mut [u8], drawn: u32, mix: u8) -> Draft
     ensures { result.at ≤ length buffer.new }
 {
     let shape = generator::step(drawn);
+    let mix = mix_of(mix);
     let manner = Manner {
         tries: 8,
         high: shape / 1048576 % 2 == 1,
@@ -62,12 +84,24 @@ pub fn make_mixed(buffer: &mut [u8], drawn: u32, mix: u8) -> Draft
     closed(buffer, d)
 }
 
-// Few threads for locks, so that holders come to release, and where events are to repeat.
-fn thread_count(mix: u8, more: bool) -> u8 {
-    if mix == 2 || mix == 4 {
-        return if more { 4 } else { 2 };
+fn mix_of(number: u8) -> Mix {
+    match number {
+        1 => Mix::Reads,
+        2 => Mix::Locks,
+        3 => Mix::Threads,
+        4 => Mix::Repeats,
+        _ => Mix::Even,
     }
-    if more { event::THREADS } else { 4 }
+}
+
+// Few threads for locks, so that holders come to release, and where events are to repeat.
+fn thread_count(mix: Mix, more: bool) -> u8 {
+    match (mix, more) {
+        (Mix::Locks | Mix::Repeats, false) => 2,
+        (Mix::Locks | Mix::Repeats, true) => 4,
+        (_, false) => 4,
+        (_, true) => event::THREADS,
+    }
 }
 
 // Closes a log; the place after it is within the buffer.
@@ -75,21 +109,15 @@ fn closed(buffer: &mut [u8], d: Draft) -> Draft
     ensures { result.at ≤ length buffer.new }
 {
     let end = close(buffer, d.at, d.drawn / 32768 % 32);
-    within(buffer.len(), end, d.drawn)
-}
-
-fn within(size: usize, end: usize, drawn: u32) -> Draft
-    ensures { result.at ≤ size }
-{
-    if end <= size {
-        return Draft { at: end, drawn };
+    Draft {
+        at: end.min(buffer.len()),
+        drawn: d.drawn,
     }
-    Draft { at: size, drawn }
 }
 
 fn events(buffer: &mut [u8], drawn: u32, count: u32, manner: Manner) -> Draft {
     let mut d = Draft { at: 0, drawn };
-    for n in 0..count {
+    for _ in 0..count {
         d = one_event(buffer, d, manner);
     }
     d
@@ -97,18 +125,16 @@ fn events(buffer: &mut [u8], drawn: u32, count: u32, manner: Manner) -> Draft {
 
 // Draws an event until the log takes it, so many times at most.
 fn one_event(buffer: &mut [u8], d: Draft, manner: Manner) -> Draft {
-    let tries = manner.tries;
-    let at = d.at;
-    let mut end = at;
+    let mut end = d.at;
     let mut drawn = d.drawn;
-    for n in 0..tries {
+    for _ in 0..manner.tries {
         drawn = generator::step(drawn);
         end = place_after(
-            writer::write_event(buffer, at, drawn_event(drawn, manner)),
-            at,
+            writer::write_event(buffer, d.at, drawn_event(drawn, manner)),
+            d.at,
         );
         if takes(buffer, end) {
-            return Draft { at: end, drawn };
+            break;
         }
     }
     Draft { at: end, drawn }
@@ -116,25 +142,19 @@ fn one_event(buffer: &mut [u8], d: Draft, manner: Manner) -> Draft {
 
 // Whether what stands before `end`, closed, is an accepted log.
 fn takes(buffer: &mut [u8], end: usize) -> bool {
-    writer::write_end(buffer, end);
-    if buffer.len() <= end {
+    let Ok(size) = writer::write_end(buffer, end) else {
         return false;
-    }
-    let size = end + 1;
-    accepted(event_log::read_log(&buffer[..size]))
+    };
+    buffer
+        .get(..size)
+        .is_some_and(|log| accepted(event_log::read_log(log)))
 }
 
 // Whether a log is accepted.
-pub fn accepted(read: LogRead) -> bool
+pub fn accepted(read: Result<usize, Refused>) -> bool
     ensures { result ≡ is_accepted read }
 {
-    match read {
-        LogRead::Accepted { events: _ } => true,
-        LogRead::LogRefused {
-            number: _,
-            offset: _,
-        } => false,
-    }
+    read.is_ok()
 }
 
 // Closes the log by 00; in four ways of 32 not at all, by 08, by 00 00, or by 00 08.
@@ -152,8 +172,8 @@ fn close(buffer: &mut [u8], at: usize, way: u32) -> usize {
 }
 
 fn set_byte(buffer: &mut [u8], at: usize, b: u8) {
-    if at < buffer.len() {
-        buffer[at] = b;
+    if let Some(place) = buffer.get_mut(at) {
+        *place = b;
     }
 }
 
@@ -175,14 +195,14 @@ fn drawn_event(drawn: u32, manner: Manner) -> Event {
         LAST_THREAD,
         high,
     );
-    let kind = drawn / 16777216 % 16;
-    let operation = drawn_operation(in_mix(kind, manner.mix), object, child, high);
+    let kind = drawn_kind(drawn / 16777216 % 16, manner.mix);
+    let operation = drawn_operation(kind, object, child, high);
     Event { thread, operation }
 }
 
-// One of four objects; in mix 4 the first.
-fn drawn_object(drawn: u32, mix: u8) -> u8 {
-    if mix == 4 {
+// One of four objects; the first where events repeat.
+fn drawn_object(drawn: u32, mix: Mix) -> u8 {
+    if mix == Mix::Repeats {
         return 0;
     }
     (drawn / 1048576 % 4) as u8
@@ -205,91 +225,98 @@ fn drawn_child(drawn: u32, object: u8, threads: u8) -> u8 {
     (drawn / 65536 % event::THREADS as u32) as u8
 }
 
-// A number for the operation, by one of 16 drawn.
-fn in_mix(kind: u32, mix: u8) -> u32 {
+// By one of 16 numbers drawn.
+fn drawn_kind(number: u32, mix: Mix) -> Kind {
     match mix {
-        1 => reads(kind),
-        2 => locks(kind),
-        3 => threads(kind),
-        4 => repeats(kind),
-        _ => kind,
+        Mix::Even => even(number),
+        Mix::Reads => reads(number),
+        Mix::Locks => locks(number),
+        Mix::Threads => threads(number),
+        Mix::Repeats => repeats(number),
     }
 }
 
-fn reads(kind: u32) -> u32 {
-    match kind {
-        0..=3 => 0,
-        4..=6 => kind - 2,
-        7 => 5,
-        8..=9 => 7,
-        10 => 11,
-        11 => 13,
-        _ => 15,
+fn even(number: u32) -> Kind {
+    match number {
+        0..=1 => Kind::Read,
+        2 => Kind::High,
+        3..=4 => Kind::Low,
+        5..=6 => Kind::Acquire,
+        7..=10 => Kind::Release,
+        11..=12 => Kind::Fork,
+        13..=14 => Kind::Join,
+        _ => Kind::Mark,
     }
 }
 
-fn locks(kind: u32) -> u32 {
-    match kind {
-        0..=3 => 5,
-        4..=10 => 7,
-        11 => 0,
-        12 => 2,
-        _ => 15,
+fn reads(number: u32) -> Kind {
+    match number {
+        0..=3 => Kind::Read,
+        4 => Kind::High,
+        5..=6 => Kind::Low,
+        7 => Kind::Acquire,
+        8..=9 => Kind::Release,
+        10 => Kind::Fork,
+        11 => Kind::Join,
+        _ => Kind::Mark,
     }
 }
 
-fn threads(kind: u32) -> u32 {
-    match kind {
-        0..=4 => 11,
-        5..=8 => 13,
-        9 => 0,
-        10 => 2,
-        _ => 15,
+fn locks(number: u32) -> Kind {
+    match number {
+        0..=3 => Kind::Acquire,
+        4..=10 => Kind::Release,
+        11 => Kind::Read,
+        12 => Kind::High,
+        _ => Kind::Mark,
     }
 }
 
-fn repeats(kind: u32) -> u32 {
-    match kind {
-        0..=5 => 0,
-        6 => 2,
-        7 => 3,
-        _ => 15,
+fn threads(number: u32) -> Kind {
+    match number {
+        0..=4 => Kind::Fork,
+        5..=8 => Kind::Join,
+        9 => Kind::Read,
+        10 => Kind::High,
+        _ => Kind::Mark,
     }
 }
 
-// Writes at two heights, as these play no part in order or pattern.
-fn drawn_operation(kind: u32, object: u8, child: u8, high: bool) -> Operation {
+fn repeats(number: u32) -> Kind {
+    match number {
+        0..=5 => Kind::Read,
+        6 => Kind::High,
+        7 => Kind::Low,
+        _ => Kind::Mark,
+    }
+}
+
+fn drawn_operation(kind: Kind, object: u8, child: u8, high: bool) -> Operation {
     let variable = near(object % 2, LAST_VARIABLE, high);
     let lock = near(object / 3, LAST_LOCK, high);
     match kind {
-        0..=1 => Operation::Read { variable },
-        2 => Operation::Write {
+        Kind::Read => Operation::Read { variable },
+        Kind::High => Operation::Write {
             variable,
-            height: 2147483647,
+            height: i32::MAX,
         },
-        3..=4 => Operation::Write {
+        Kind::Low => Operation::Write {
             variable,
             height: -400,
         },
-        5..=6 => Operation::Acquire { lock },
-        7..=10 => Operation::Release { lock },
-        11..=12 => Operation::Fork { child },
-        13..=14 => Operation::Join { child },
-        _ => Operation::Mark {
+        Kind::Acquire => Operation::Acquire { lock },
+        Kind::Release => Operation::Release { lock },
+        Kind::Fork => Operation::Fork { child },
+        Kind::Join => Operation::Join { child },
+        Kind::Mark => Operation::Mark {
             mark: object as u16,
         },
     }
 }
 
 // The next write place; the old one after a refusal.
-pub fn place_after(w: Written, at: usize) -> usize
+pub fn place_after(w: Result<usize, Refused>, at: usize) -> usize
     ensures { result ≡ place_after w at }
 {
-    match w {
-        Written::Next { at: next } => next,
-        Written::Refused {
-            number: _,
-            offset: _,
-        } => at,
-    }
+    w.unwrap_or(at)
 }
