@@ -1,2 +1,2 @@
--- Laws on tests, for the proofs of single functions.
-mod Answers
+-- What a search from the last place back finds.
+pub mod Below

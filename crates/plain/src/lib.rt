@@ -2,11 +2,10 @@
 // Used by test programs only.
 #![tactic(auto)]
 
-ghost use Rattle.std.specs.Prelude.{◌≡◌, true, cond, ◌||◌, eqb, ◌+◌, ◌*◌, ◌<◌, ◌≤◌};
+ghost use Rattle.std.specs.Prelude.{◌≡◌, ◌+◌, ◌*◌, ◌<◌, ◌≤◌};
 ghost use Rattle.plain.specs.Numbers.{kind_in, thread_in, object_in, number_of};
 ghost use Rattle.plain.specs.Chains.{of_kinds, same_variable_one_write, same_lock, names_thread_of, is_thread_of, dependent, dependent_at, entry, is_at, holds_to, links, reaches_to, column_to, columns_to};
 
-use command::EventRead;
 use event::Event;
 
 pub const MOST: usize = 8;
@@ -75,8 +74,7 @@ pub fn read(log: &[u8]) -> Leading
     let mut events = [0u32; MOST];
     let mut at: usize = 0;
     for n in 0..MOST {
-        let step = command::read_event(log, at);
-        let EventRead::Event { event, next } = step else {
+        let Ok(Some((event, next))) = command::read_event(log, at) else {
             return Leading { events, count: n };
         };
         events[n] = number_of(event);
@@ -92,79 +90,70 @@ pub fn read(log: &[u8]) -> Leading
 pub fn holds(l: Leading, kind: u32) -> bool
     ensures { result ≡ holds_to 8 l.events l.count kind }
 {
-    let events = l.events;
-    let count = l.count;
-    let mut found = false;
-    for n in 0..MOST {
-        found = found_at(events, count, kind, n, found);
-    }
-    found
+    (0..MOST).any(|n| is_at(&l.events, l.count, kind, n))
 }
 
-// Whether it was found before place n or is found there.
-fn found_at(events: [u32; MOST], count: usize, wanted: u32, n: usize, found: bool) -> bool
-    ensures { result ≡ cond (is_at events count wanted n) true found }
+// Whether event n, of `count` of eight events, is of the kind.
+#[tactic(auto, unfolding(crate::specs::Chains::is_at))]
+fn is_at(events: &[u32; MOST], count: usize, wanted: u32, n: usize) -> bool
+    ensures { result ≡ is_at events.now count wanted n }
 {
-    if n >= MOST {
-        return found;
-    }
-    if n >= count {
-        return found;
-    }
-    if kind(events[n]) == wanted {
-        return true;
-    }
-    found
+    n < MOST && n < count && kind(events[n]) == wanted
 }
 
 // Whether the event is of one of two kinds: reads and writes touch a variable, acquires and releases a lock, forks and joins a thread.
 fn of_kinds(a: u32, x: u32, y: u32) -> bool
     ensures { result ≡ of_kinds a x y }
 {
-    let k = kind(a);
-    (k == x) | (k == y)
+    kind(a) == x || kind(a) == y
 }
 
 // "they touch the same variable and at least one is a write"
+#[tactic(auto, unfolding(crate::specs::Chains::same_variable_one_write))]
 fn same_variable_one_write(a: u32, b: u32) -> bool
     ensures { result ≡ same_variable_one_write a b }
 {
-    let touch = of_kinds(a, READ, WRITE) & of_kinds(b, READ, WRITE);
-    let write = (kind(a) == WRITE) | (kind(b) == WRITE);
-    (object(a) == object(b)) & touch & write
+    let touch = of_kinds(a, READ, WRITE) && of_kinds(b, READ, WRITE);
+    let write = kind(a) == WRITE || kind(b) == WRITE;
+    object(a) == object(b) && touch && write
 }
 
 // "they touch the same lock"
+#[tactic(auto, unfolding(crate::specs::Chains::same_lock))]
 fn same_lock(a: u32, b: u32) -> bool
     ensures { result ≡ same_lock a b }
 {
-    (object(a) == object(b)) & of_kinds(a, ACQUIRE, RELEASE) & of_kinds(b, ACQUIRE, RELEASE)
+    object(a) == object(b) && of_kinds(a, ACQUIRE, RELEASE) && of_kinds(b, ACQUIRE, RELEASE)
 }
 
 // a "forks or joins a thread which" b "acts as, forks or joins"
+#[tactic(auto, unfolding(crate::specs::Chains::names_thread_of))]
 fn names_thread_of(a: u32, b: u32) -> bool
     ensures { result ≡ names_thread_of a b }
 {
-    of_kinds(a, FORK, JOIN) & is_thread_of(object(a), b)
+    of_kinds(a, FORK, JOIN) && is_thread_of(object(a), b)
 }
 
 // Whether b acts as the thread, forks or joins it.
+#[tactic(auto, unfolding(crate::specs::Chains::is_thread_of))]
 fn is_thread_of(named: u32, b: u32) -> bool
     ensures { result ≡ is_thread_of named b }
 {
-    (named == thread(b)) | ((named == object(b)) & of_kinds(b, FORK, JOIN))
+    named == thread(b) || named == object(b) && of_kinds(b, FORK, JOIN)
 }
 
 // The four points of document 01's list.
+#[tactic(auto, unfolding(crate::specs::Chains::dependent))]
 pub fn dependent(a: u32, b: u32) -> bool
     ensures { result ≡ dependent a b }
 {
-    let touch = same_variable_one_write(a, b) | same_lock(a, b);
-    let name = names_thread_of(a, b) | names_thread_of(b, a);
-    (thread(a) == thread(b)) | touch | name
+    let touch = same_variable_one_write(a, b) || same_lock(a, b);
+    let name = names_thread_of(a, b) || names_thread_of(b, a);
+    thread(a) == thread(b) || touch || name
 }
 
 // Whether event i comes before event j or is it, at 8 * j + i; both counted from 0.
+#[tactic(auto, unfolding(crate::specs::Chains::columns_to))]
 pub fn all_before(events: [u32; MOST]) -> [bool; 64]
     ensures { result ≡ columns_to 8 events }
 {
@@ -176,13 +165,13 @@ pub fn all_before(events: [u32; MOST]) -> [bool; 64]
 }
 
 // What comes before event j or is it, from what comes before the events ahead of it.
+#[tactic(auto, unfolding(crate::specs::Chains::column_to))]
 fn column(before: &mut [bool; 64], events: [u32; MOST], j: usize)
     requires { j < 8 }
     ensures { before.new ≡ column_to 8 events j before.old }
 {
     for i in 0..MOST {
-        let b = reaches(before, events, i, j);
-        before[8 * j + i] = b;
+        before[8 * j + i] = reaches(before, events, i, j);
     }
 }
 
@@ -190,58 +179,29 @@ fn column(before: &mut [bool; 64], events: [u32; MOST], j: usize)
 fn reaches(before: &[bool; 64], events: [u32; MOST], i: usize, j: usize) -> bool
     ensures { result ≡ reaches_to 8 events before.now i j }
 {
-    let mut found = i == j;
-    for k in 0..MOST {
-        found = linked(before, events, i, j, k, found);
-    }
-    found
+    (0..MOST).any(|k| links(before, events, i, j, k)) || i == j
 }
 
-// Whether a chain was found before, or goes through event k.
-fn linked(
-    before: &[bool; 64],
-    events: [u32; MOST],
-    i: usize,
-    j: usize,
-    k: usize,
-    found: bool,
-) -> bool
-    ensures { result ≡ cond (links events before.now i j k) true found }
+// Whether a chain goes through event k.
+#[tactic(auto, unfolding(crate::specs::Chains::links))]
+fn links(before: &[bool; 64], events: [u32; MOST], i: usize, j: usize, k: usize) -> bool
+    ensures { result ≡ links events before.now i j k }
 {
-    if k >= j {
-        return found;
-    }
-    if at(before, i, k) {
-        if dependent_places(events, k, j) {
-            return true;
-        }
-        return found;
-    }
-    found
+    k < j && at(before, i, k) && dependent_places(events, k, j)
 }
 
 // The same of two events by their places, counted from 0.
+#[tactic(auto, unfolding(crate::specs::Chains::dependent_at))]
 pub fn dependent_places(events: [u32; MOST], i: usize, j: usize) -> bool
     ensures { result ≡ dependent_at events i j }
 {
-    if i >= MOST {
-        return false;
-    }
-    if j >= MOST {
-        return false;
-    }
-    dependent(events[i], events[j])
+    i < MOST && j < MOST && dependent(events[i], events[j])
 }
 
 // The entry for events i and j.
+#[tactic(auto, unfolding(crate::specs::Chains::entry))]
 pub fn at(before: &[bool; 64], i: usize, j: usize) -> bool
     ensures { result ≡ entry before.now i j }
 {
-    if i >= MOST {
-        return false;
-    }
-    if j >= MOST {
-        return false;
-    }
-    before[8 * j + i]
+    i < MOST && j < MOST && before[8 * j + i]
 }
