@@ -1,4 +1,6 @@
 // The plain search: every order that swaps of neighbouring independent events make of a list of at most seven, gone through one by one.
+ghost use Rattle.std.specs.Prelude.{◌≡◌, true, ◌<◌};
+
 use plain::MOST;
 
 // Seven events have so many orders at most.
@@ -6,6 +8,9 @@ pub const ORDERS: usize = 5040;
 
 // Six digits in base 8. They tell an order of seven places, as the seventh event is the one left over.
 pub const MARKS: usize = 262144;
+
+// The events as they stand.
+const RECORDED: [usize; 7] = [0, 1, 2, 3, 4, 5, 6];
 
 // Whether the first `count` events have an order that holds the slots, `size` of them.
 #[derive(Clone, Copy)]
@@ -33,45 +38,34 @@ pub fn search(queue: &mut [u32], seen: &mut [bool], q: Question) -> Searched {
 
 // Goes through all orders, whether they hold the slots or not, and answers how many there are. They stay marked in `seen`.
 pub fn all(queue: &mut [u32], seen: &mut [bool], q: Question) -> usize {
-    let events = q.events;
-    let slots = q.slots;
-    let s = explore(
-        queue,
-        seen,
-        Question {
-            events,
-            count: q.count,
-            slots,
-            size: MOST + 1,
-        },
-    );
-    s.found
+    let none_holds = Question {
+        size: MOST + 1,
+        ..q
+    };
+    explore(queue, seen, none_holds).found
 }
 
 // Whether the order was found: the mark tells all places but the first, and the sum tells that.
 pub fn marked(seen: &[bool], order: [usize; 7]) -> bool {
-    let mark = number_of(order) as usize % MARKS;
-    if mark < seen.len() {
-        return seen[mark] && sum(order) == 21;
-    }
-    false
+    seen.get(mark_of(number_of(order))).is_some_and(|s| *s) && sum(order) == 21
 }
 
 fn sum(order: [usize; 7]) -> usize {
-    let mut n: usize = 0;
-    for i in 0..7 {
-        n = n % 64 + order[i] % 8;
-    }
-    n
+    order.iter().fold(0, |n, place| n % 64 + place % 8)
+}
+
+// The mark of an order's number.
+fn mark_of(number: u32) -> usize {
+    number as usize % MARKS
 }
 
 fn explore(queue: &mut [u32], seen: &mut [bool], q: Question) -> Searched {
-    let mut found = enqueue(queue, seen, number_of([0, 1, 2, 3, 4, 5, 6]), 0);
+    let mut found = enqueue(queue, seen, number_of(RECORDED), 0);
     for head in 0..ORDERS {
         if head >= found {
             return result_of(false, head, found);
         }
-        let order = order_of(at(queue, head));
+        let order = order_of(queue.get(head).copied().unwrap_or(0));
         if holds(order, q) {
             return result_of(true, head + 1, found);
         }
@@ -90,7 +84,7 @@ fn result_of(holds: bool, orders: usize, found: usize) -> Searched {
 
 // Whether the events as they stand, unswapped, hold the slots.
 pub fn unswapped(q: Question) -> bool {
-    holds([0, 1, 2, 3, 4, 5, 6], q)
+    holds(RECORDED, q)
 }
 
 // Puts each order that is one swap away, where it is new; the new end of the queue.
@@ -103,126 +97,81 @@ fn neighbours(
 ) -> usize {
     let mut end = tail;
     for i in 0..6 {
-        end = neighbour(queue, seen, order, q, i, end);
+        if independent(order, q, i) {
+            end = enqueue(queue, seen, number_of(swapped(order, i)), end);
+        }
     }
     end
 }
 
-fn neighbour(
-    queue: &mut [u32],
-    seen: &mut [bool],
-    order: [usize; 7],
-    q: Question,
-    i: usize,
-    tail: usize,
-) -> usize {
-    if independent(order, q, i) {
-        return enqueue(queue, seen, number_of(swapped(order, i)), tail);
-    }
-    tail
-}
-
 // Whether the events at places i and i + 1 of the order are there and independent.
 fn independent(order: [usize; 7], q: Question, i: usize) -> bool {
-    if i >= 6 {
-        return false;
-    }
-    if q.count <= i + 1 {
-        return false;
-    }
-    let events = q.events;
-    !plain::dependent_places(events, order[i], order[i + 1])
+    i < 6 && i + 1 < q.count && !plain::dependent_places(q.events, order[i], order[i + 1])
 }
 
-fn swapped(order: [usize; 7], i: usize) -> [usize; 7] {
-    let mut o = order;
-    if i >= 6 {
-        return o;
+fn swapped(mut order: [usize; 7], i: usize) -> [usize; 7] {
+    if i < 6 {
+        order.swap(i, i + 1);
     }
-    o[i] = order[i + 1];
-    o[i + 1] = order[i];
-    o
+    order
 }
 
 // Whether the order holds the slots: from the left, each slot is filled by the first event that fits it.
 pub fn holds(order: [usize; 7], q: Question) -> bool {
     let mut slot: usize = 0;
-    for i in 0..7 {
-        slot = filled(q, slot, i, order[i]);
+    for &event in order.iter().take(q.count) {
+        if fits(q, slot, event) {
+            slot += 1;
+        }
     }
     q.size <= slot
 }
 
-// How many slots are filled after place i, where the event stands. An event and a slot that it fits have the same number.
-fn filled(q: Question, slot: usize, i: usize, event: usize) -> usize {
-    if q.count <= i || q.size <= slot {
-        return slot;
-    }
-    if MOST <= slot {
-        return slot;
-    }
-    if MOST <= event {
-        return slot;
-    }
-    if q.slots[slot] == q.events[event] {
-        return slot + 1;
-    }
-    slot
+// Whether there is such a slot, and the event fits it. An event and a slot that it fits have the same number.
+fn fits(q: Question, slot: usize, event: usize) -> bool
+    ensures { result ≡ true → slot < 8 }
+{
+    slot < q.size && slot < MOST && event < MOST && q.slots[slot] == q.events[event]
 }
 
 // An order as a number: a digit in base 8 for each place, the first place highest.
 fn number_of(order: [usize; 7]) -> u32 {
-    let mut n: u32 = 0;
-    for i in 0..7 {
-        n = n % 262144 * 8 + (order[i] % 8) as u32;
-    }
-    n
+    order
+        .iter()
+        .fold(0u32, |n, place| n % 262144 * 8 + (place % 8) as u32)
 }
 
 fn order_of(number: u32) -> [usize; 7] {
     let mut order = [0usize; 7];
     let mut rest = number;
-    for i in 0..7 {
-        order[6 - i] = (rest % 8) as usize;
-        rest = rest / 8;
+    for i in (0..7).rev() {
+        order[i] = (rest % 8) as usize;
+        rest /= 8;
     }
     order
 }
 
-// The order at a place of the queue.
-fn at(queue: &[u32], i: usize) -> u32 {
-    if i < queue.len() {
-        return queue[i];
-    }
-    0
-}
-
 // Puts an order at the end of the queue, unless it was seen; the new end.
 fn enqueue(queue: &mut [u32], seen: &mut [bool], order: u32, tail: usize) -> usize {
-    let mark = order as usize % MARKS;
-    if mark >= seen.len() {
+    let Some(mark) = seen.get_mut(mark_of(order)) else {
+        return tail;
+    };
+    let Some(place) = queue.get_mut(tail) else {
+        return tail;
+    };
+    if *mark {
         return tail;
     }
-    if tail >= queue.len() {
-        return tail;
-    }
-    if seen[mark] {
-        return tail;
-    }
-    seen[mark] = true;
-    queue[tail] = order;
+    *mark = true;
+    *place = order;
     tail + 1
 }
 
 // Forgets the orders before the end of the queue.
 pub fn clear(queue: &[u32], seen: &mut [bool], tail: usize) {
-    for i in 0..tail {
-        forget(seen, at(queue, i) as usize % MARKS);
-    }
-}
-
-fn forget(seen: &mut [bool], mark: usize) {
-    if mark < seen.len() {
-        seen[mark] = false;
+    for order in queue.iter().take(tail) {
+        if let Some(mark) = seen.get_mut(mark_of(*order)) {
+            *mark = false;
+        }
     }
 }

@@ -22,9 +22,9 @@ fn in_sequence(l: Leading, shape: u32) -> Sketch {
     let mut slots = [strange(0); 5];
     let mut place = (shape / 4194304 % 2) as usize;
     let mut drawn = shape;
-    for i in 0..5 {
+    for slot in slots.iter_mut() {
         drawn = generator::step(drawn);
-        slots[i] = slot_from(l, place, drawn);
+        *slot = slot_from(l, place, drawn);
         place = next(place, drawn);
     }
     Sketch {
@@ -54,15 +54,10 @@ fn next(place: usize, drawn: u32) -> usize {
 
 // The slot of an event; at times one of another operation, or a mark that no log here has.
 fn slot_from(l: Leading, place: usize, drawn: u32) -> u32 {
-    let count = l.count;
-    if count < 1 {
+    let event = place.checked_rem(l.count).and_then(|i| l.events.get(i));
+    let Some(&e) = event else {
         return strange(0);
-    }
-    let i = place % count;
-    if i >= plain::MOST {
-        return strange(0);
-    }
-    let e = l.events[i];
+    };
     match drawn / 1048576 % 32 {
         0 => strange((plain::thread(e) % 256) as u8),
         1 => turned(e),
@@ -77,23 +72,15 @@ fn strange(thread: u8) -> u32 {
 // The same with the other operation on its variable, lock or child.
 fn turned(a: u32) -> u32 {
     match plain::kind(a) {
-        1 | 3 | 5 => a % 268435456 + 16777216,
-        2 | 4 | 6 => before(a),
+        plain::READ | plain::ACQUIRE | plain::FORK => a % 268435456 + 16777216,
+        plain::WRITE | plain::RELEASE | plain::JOIN => a - 16777216,
         _ => a,
     }
 }
 
-// The same of the kind before.
-fn before(a: u32) -> u32 {
-    if a < 16777216 {
-        return a;
-    }
-    a - 16777216
-}
-
 fn mixed(k: Sketch, times: usize) -> Sketch {
     let mut m = k;
-    for n in 0..times {
+    for _ in 0..times {
         m = exchanged(m);
     }
     m
@@ -108,44 +95,18 @@ fn exchanged(k: Sketch) -> Sketch {
     }
     let i = (drawn / 16777216) as usize % size;
     let j = (drawn / 65536 % 256) as usize % size;
-    let slots = k.slots;
-    Sketch {
-        slots: exchanged_at(slots, i, j),
-        size,
-        drawn,
+    let mut slots = k.slots;
+    if i < 5 && j < 5 {
+        slots.swap(i, j);
     }
-}
-
-fn exchanged_at(slots: [u32; 5], i: usize, j: usize) -> [u32; 5] {
-    if 5 <= i {
-        return slots;
-    }
-    if 5 <= j {
-        return slots;
-    }
-    let mut s = slots;
-    s[i] = slots[j];
-    s[j] = slots[i];
-    s
+    Sketch { slots, size, drawn }
 }
 
 // Whether two of the slots are equal.
 pub fn repeats(k: Sketch) -> bool {
-    for j in 0..5 {
-        if j < k.size && repeated(k, j) {
-            return true;
-        }
-    }
-    false
-}
-
-// Whether an earlier slot equals slot j.
-fn repeated(k: Sketch, j: usize) -> bool {
-    if 5 <= j {
-        return false;
-    }
-    for i in 0..5 {
-        if i < j && k.slots[i] == k.slots[j] {
+    let slots = &k.slots[..k.size.min(5)];
+    for (j, slot) in slots.iter().enumerate() {
+        if slots[..j].contains(slot) {
             return true;
         }
     }
@@ -155,18 +116,10 @@ fn repeated(k: Sketch, j: usize) -> bool {
 // Writes the pattern; the place after it.
 pub fn write(buffer: &mut [u8], k: Sketch) -> usize {
     let mut at: usize = 0;
-    for i in 0..5 {
-        at = write_one(buffer, at, k, i);
+    for slot in k.slots.iter().take(k.size) {
+        at = drawn::place_after(writer::write_slot(buffer, at, slot_of(*slot)), at);
     }
     drawn::place_after(writer::write_end(buffer, at), at)
-}
-
-fn write_one(buffer: &mut [u8], at: usize, k: Sketch, i: usize) -> usize {
-    if k.size <= i || 5 <= i {
-        return at;
-    }
-    let slot = slot_of(k.slots[i]);
-    drawn::place_after(writer::write_slot(buffer, at, slot), at)
 }
 
 fn slot_of(a: u32) -> Slot {
@@ -180,12 +133,12 @@ fn slot_of(a: u32) -> Slot {
 fn operation_of(kind: u32, object: u16) -> SlotOperation {
     let low = (object % 256) as u8;
     match kind {
-        1 => SlotOperation::Read { variable: low },
-        2 => SlotOperation::Write { variable: low },
-        3 => SlotOperation::Acquire { lock: low },
-        4 => SlotOperation::Release { lock: low },
-        5 => SlotOperation::Fork { child: low },
-        6 => SlotOperation::Join { child: low },
+        plain::READ => SlotOperation::Read { variable: low },
+        plain::WRITE => SlotOperation::Write { variable: low },
+        plain::ACQUIRE => SlotOperation::Acquire { lock: low },
+        plain::RELEASE => SlotOperation::Release { lock: low },
+        plain::FORK => SlotOperation::Fork { child: low },
+        plain::JOIN => SlotOperation::Join { child: low },
         _ => SlotOperation::Mark { mark: object },
     }
 }

@@ -41,17 +41,12 @@ fn make(log: &mut [u8], drawn: u32, mix: u8) -> Draft {
 }
 
 fn leading_of(log: &[u8], size: usize) -> Leading {
-    if log.len() < size {
-        return plain::read(b"");
-    }
-    plain::read(&log[..size])
+    plain::read(log.get(..size).unwrap_or(b""))
 }
 
 impl Sample {
     // The last number drawn.
     pub fn last(self) -> u32 {
-        let t = self.truth;
-        let k = t.sketch;
-        k.drawn
+        self.truth.sketch.drawn
     }
 }

@@ -24,8 +24,8 @@ pub fn of(queue: &mut [u32], seen: &mut [bool], leading: Leading, sketch: Sketch
     for n in 0..MOST {
         let s = of_first(queue, seen, leading, sketch, n);
         found[n] = s.holds;
-        orders = sum(orders, s.orders);
-        most = larger(most, s.orders);
+        orders = orders.saturating_add(s.orders);
+        most = most.max(s.orders);
     }
     Truth {
         leading,
@@ -52,8 +52,8 @@ fn of_first(queue: &mut [u32], seen: &mut [bool], l: Leading, k: Sketch, n: usiz
 // Whether the leading n events have an order that holds the pattern.
 pub fn question(l: Leading, k: Sketch, n: usize) -> Question {
     let events = l.events;
-    let s = k.slots;
-    let slots = [s[0], s[1], s[2], s[3], s[4], 0, 0, 0];
+    let mut slots = [0; MOST];
+    slots[..5].copy_from_slice(&k.slots);
     Question {
         events,
         count: n,
@@ -62,53 +62,27 @@ pub fn question(l: Leading, k: Sketch, n: usize) -> Question {
     }
 }
 
-// The sum, or the first number where the counting stops.
-pub fn sum(n: u64, m: u64) -> u64 {
-    if 1000000000000 < n {
-        return n;
-    }
-    if 1000000000000 < m {
-        return n;
-    }
-    n + m
-}
-
-pub fn larger(n: u64, m: u64) -> u64 {
-    if n < m { m } else { n }
-}
-
 impl Truth {
     // Whether the leading n events have a match.
     pub fn matched(self, n: usize) -> bool {
-        if n < MOST {
-            return self.found[n];
-        }
-        false
+        self.found.get(n).is_some_and(|f| *f)
     }
 
-    // The count of the leading n events: the smallest number whose leading events have a match; 0 without one.
-    pub fn count(self, n: usize) -> usize {
+    // The count of the leading n events: the smallest number whose leading events have a match; none without one.
+    pub fn count(self, n: usize) -> Option<usize> {
         if !self.matched(n) {
-            return 0;
+            return None;
         }
-        for m in 0..MOST {
-            if self.found[m] {
-                return m;
-            }
-        }
-        0
+        self.found.iter().position(|f| *f)
     }
 
     // Whether the whole log has a match.
     pub fn present(self) -> bool {
-        let l = self.leading;
-        self.matched(l.count)
+        self.matched(self.leading.count)
     }
 
     // Whether the log's own order holds the pattern.
     pub fn unswapped(self) -> bool {
-        let l = self.leading;
-        let k = self.sketch;
-        orders::unswapped(question(l, k, l.count))
+        orders::unswapped(question(self.leading, self.sketch, self.leading.count))
     }
 }

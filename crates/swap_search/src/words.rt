@@ -8,20 +8,17 @@ pub fn print(counts: &[u64]) {
 
 fn print_by(words: &[u8], counts: &[u64]) {
     let mut at: usize = 0;
-    for i in 0..counts.len() {
-        at = print_line(words, at, counts[i]);
+    for n in counts {
+        at = print_line(words, at, *n);
     }
 }
 
 // The line from a place on, and its count; the place of the next line.
 fn print_line(words: &[u8], at: usize, n: u64) -> usize {
     let end = console::find(words, at, b'\n');
-    if words.len() < end {
+    let Some(line) = words.get(at..end) else {
         return at;
-    }
-    if end < at {
-        return at;
-    }
-    console::count(&words[at..end], n);
+    };
+    console::count(line, n);
     end + 1
 }
