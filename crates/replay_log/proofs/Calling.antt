@@ -2,35 +2,33 @@
 use Prim.Native.Nat.{ℕ, zero, suc, ◌≤◌, ◌<◌}
 use native.Mathlib.Nat.{zero-add}
 use native.Mathlib.Omega.{arith}
-use mathlib.Core.Path.{◌≡◌, refl, sym, ap, ◌∙◌}
+use mathlib.Core.Path.{◌≡◌, refl, ap, ◌∙◌}
 use mathlib.Core.Bool.{Bool, true, false, false≢true}
 use mathlib.Core.List.Memᴰ.{head}
 use mathlib.Core.List.Memᴰ.{tail}
 use mathlib.Core.List.{List, [], ◌∷◌, ◌++◌, Memᴰ as Mem}
-use lib.Dec.{ltb}
 use lib.ListN.{length, get_or, take, drop, length-append}
 use lib.Seq.{get_or-take}
-use borrow.Author.Tests.{ltb-true, ltb-false}
 use Rattle.event.specs.declared.Event.{Event}
 use Rattle.event.specs.declared.Slot.{Slot}
-use Rattle.event.specs.Limits.{slots as slot_limit}
 use Rattle.trace.specs.Match.{smallest, without}
 use Rattle.trace.proofs.Rows.{each_length, each_mem}
 use Rattle.trace.proofs.Numbers.{numbered_among}
 use Rattle.dependence.specs.Order.{IsCount, Named}
 use Rattle.command.specs.Bytes.{Bytes}
-use Rattle.event_log.specs.Whole.{Whole, read_log, read_pattern, accepted, refused, pattern_from, log_bytes}
+use Rattle.event_log.specs.Whole.{Whole, read_log, read_pattern, accepted, pattern_from, log_bytes}
 use Rattle.event_log.proofs.Leading.{few_events}
 use Rattle.event_log.proofs.LogRoundTrip.{log_calls}
-use Rattle.event_log.proofs.PatternRoundTrip.{pattern_iff}
-use Rattle.session.specs.Answers.{Ruling, Refused, nothing, Given}
+use Rattle.session.specs.Answers.{Ruling, Refused, nothing, refusal, found_is, Given}
 use Rattle.session.specs.Meaning.{VerdictOf, log_refused, judged, RunOf, pattern_refused, over_log}
-use Rattle.run.specs.declared.Outcome.{Outcome}
-use Rattle.run.specs.declared.Outcome.TheVariants.{Match, None, PatternRefused, LogRefused}
-use Rattle.run.specs.Answers.{judged_is, outcome_is}
+use Rattle.std.specs.Prelude.{Some, None, Ok, Err}
+use Rattle.event.specs.declared.refusal.Refusal.TheVariants.{NoRoom}
+use Rattle.session.specs.declared.Verdict.{Verdict}
+use Rattle.run.specs.declared.RunRefusal.{RunRefusal}
+use Rattle.run.specs.declared.RunRefusal.TheVariants.{Pattern, Log}
+use Rattle.run.specs.Answers.{judged_is}
 use Rattle.replay_passes.specs.Copies.{ReadAs, NamedAmong, Replays}
-use Rattle.replay_log.specs.declared.Replayed.{Replayed}
-use Rattle.replay_log.specs.Replay.{ReplayOf, too_short_replayed, without_match}
+use Rattle.replay_log.specs.Replay.{ReplayOf}
 
 pub read_whole : (bytes : List ℕ) → Bytes bytes → (es : List Event) → read_log bytes ≡ accepted es → ReadAs bytes es
 read_whole bytes b es q = let c = (log_calls bytes es).0 q in record { bytes_are = b; calls = c.0; few = few_events es c.1 }
@@ -63,16 +61,18 @@ run_passed pattern bytes g (pattern_refused q) z = pattern_not_nothing z
 run_passed pattern bytes g (over_log q (log_refused r)) z = log_not_nothing z
 run_passed pattern bytes g (over_log {ss = ss} q (judged {es = es} r v f)) z = record { ss = ss; es = es; slots_are = q; events_are = r; verdict = v }
 
--- ---- without a match
+-- ---- nothing written
 
-pub nothing_written : (pattern bytes buffer : List ℕ) (o : Outcome) (numbers : List ℕ) (short : Bool) → short ≡ ltb (length buffer) (length bytes)
-    → ((n : ℕ) → o ≡ Match n → ⊥) → RunOf pattern bytes (outcome_is o numbers)
-    → let r : Replayed = without_match (record { outcome = o; numbers = numbers }) short in ReplayOf pattern bytes buffer (judged_is r.judged) r.length buffer
-nothing_written pattern bytes buffer (Match n) numbers short is k run = absurd (k n refl)
-nothing_written pattern bytes buffer (PatternRefused m o) numbers short is k run = ReplayOf.refused run (λ z. pattern_not_nothing z)
-nothing_written pattern bytes buffer (LogRefused m o) numbers short is k run = ReplayOf.refused run (λ z. log_not_nothing z)
-nothing_written pattern bytes buffer None numbers true is k run = ReplayOf.too_short run refl (ltb-true _ _ (sym is))
-nothing_written pattern bytes buffer None numbers false is k run = ReplayOf.none run refl (ltb-false _ _ (sym is)) refl
+pub refused_alike : (pattern bytes buffer : List ℕ) (e : RunRefusal) → RunOf pattern bytes (judged_is (Err e)) → ReplayOf pattern bytes buffer (judged_is (Err e)) 0 buffer
+refused_alike pattern bytes buffer (Pattern r) run = ReplayOf.refused run (λ z. pattern_not_nothing z)
+refused_alike pattern bytes buffer (Log r) run = ReplayOf.refused run (λ z. log_not_nothing z)
+
+module _ (pattern bytes buffer : List ℕ) (v : Verdict) (run : RunOf pattern bytes (judged_is (Ok v))) where
+  pub short_of_it : length buffer < length bytes → ReplayOf pattern bytes buffer (judged_is (Err (Log (record { reason = NoRoom; offset = 0 })))) 0 buffer
+  short_of_it l = ReplayOf.too_short run refl l
+
+  pub no_match_shown : v.found ≡ None → length bytes ≤ length buffer → ReplayOf pattern bytes buffer (judged_is (Ok v)) 0 buffer
+  no_match_shown n l = ReplayOf.none run refl l (rw n refl)
 
 -- ---- with a match
 
@@ -104,23 +104,16 @@ module _ {ss : List Slot} {es : List Event} {r : Ruling} (v : VerdictOf ss es r)
       within (smallest l h w) = l
       within (without h) = omega arith
 
-pub few_slots : (pattern : List ℕ) → Bytes pattern → (pattern_from (read_pattern pattern)).size ≤ slot_limit
-few_slots pattern b = go (read_pattern pattern) refl
-  where
-    go : (w : Whole Slot) → read_pattern pattern ≡ w → (pattern_from w).size ≤ slot_limit
-    go (accepted ss) q = ((pattern_iff pattern b ss).0 q).0.few
-    go (refused k o) q = omega arith
-
-module _ (pattern bytes buffer : List ℕ) (o : Outcome) (numbers : List ℕ) (n : ℕ) (e : o ≡ Match n) (run : RunOf pattern bytes (outcome_is o numbers)) where
-  pub short_of_it : length buffer < length bytes → ReplayOf pattern bytes buffer (judged_is too_short_replayed.judged) too_short_replayed.length buffer
-  short_of_it l = ReplayOf.too_short (rw e at run) refl l
+module _ (pattern bytes buffer : List ℕ) (v : Verdict) (run : RunOf pattern bytes (judged_is (Ok v))) (n : ℕ) (e : v.found ≡ Some n) where
+  abbrev matched : Given
+  matched = record { refused = nothing; refusal = refusal 0 0; ruling = found_is (Some n) v.numbers }
 
   pub replay_written : length bytes ≤ length buffer → Bytes bytes → (size long : ℕ) (after : List ℕ) → size ≡ (pattern_from (read_pattern pattern)).size
-      → ((es : List Event) → ReadAs bytes es → NamedAmong es numbers size n → length bytes ≤ length buffer → Replays es (take size numbers) buffer long after)
-      → ReplayOf pattern bytes buffer (outcome_is o numbers) long after
+      → ((es : List Event) → ReadAs bytes es → NamedAmong es v.numbers size n → length bytes ≤ length buffer → Replays es (take size v.numbers) buffer long after)
+      → ReplayOf pattern bytes buffer (judged_is (Ok v)) long after
   replay_written l b size long after is writes =
-      let said = rw e at run in
-      let p = run_passed pattern bytes (outcome_is (Match n) numbers) said refl in
+      let said : RunOf pattern bytes matched = rw e at run in
+      let p = run_passed pattern bytes matched said refl in
       let s : size ≡ length p.ss = is ∙ ap (λ (w : Whole Slot). (pattern_from w).size) p.slots_are in
       let w = rw s at (writes p.es (read_whole bytes b p.es p.events_are) (rw s (listed p.verdict refl)) l) in
       let long-is = w.bytes in

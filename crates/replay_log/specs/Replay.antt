@@ -1,14 +1,12 @@
 -- What the replay call gives: its answer, how many bytes it wrote, and the buffer afterwards. Document 02, Note 1, "The log that shows it".
-use Rattle.std.specs.Prelude.{ℕ, ◌≤◌, ◌<◌, ◌≡◌, Bool, true, false, cond, List, ◌++◌, length, take, drop, replicate}
+use Rattle.std.specs.Prelude.{ℕ, ◌≤◌, ◌<◌, ◌≡◌, true, false, List, ◌++◌, length, take, drop, Result, Ok, Err}
 use Rattle.event.specs.declared.Event.{Event}
 use Rattle.event.specs.declared.Slot.{Slot}
-use Rattle.event.specs.Limits.{slots}
 use Rattle.event_log.specs.Whole.{accepted, read_log, read_pattern, log_bytes}
 use Rattle.session.specs.Answers.{refusal, no_ruling, nothing, log, Given}
 use Rattle.session.specs.Meaning.{RunOf}
-use Rattle.run.specs.declared.Judged.{Judged}
-use Rattle.run.specs.declared.Outcome.{Outcome}
-use Rattle.run.specs.declared.Outcome.TheVariants.{Match, None, PatternRefused, LogRefused}
+use Rattle.session.specs.declared.Verdict.{Verdict}
+use Rattle.run.specs.declared.RunRefusal.{RunRefusal}
 use Rattle.replay_order.specs.Replay.{IsReplay}
 use Rattle.replay_log.specs.declared.Replayed.{Replayed}
 
@@ -28,17 +26,11 @@ pub data ReplayOf (pattern bytes buffer : List ℕ) : Given → ℕ → List ℕ
       → IsReplay es (take (length ss) g.ruling.events) order
       → ReplayOf pattern bytes buffer g (length (log_bytes order)) (log_bytes order ++ drop (length (log_bytes order)) buffer)
 
--- ---- what the steps of the call give
+-- what an answer says: the run's part of it, and how many bytes were written, none for a refusal
+abbrev pub run_part : Result Replayed RunRefusal → Result Verdict RunRefusal
+run_part (Ok r) = Ok r.verdict
+run_part (Err e) = Err e
 
-abbrev pub too_short_replayed : Replayed
-too_short_replayed = record { judged = record { outcome = LogRefused 15 0; numbers = replicate slots 0 }; length = 0 }
-
--- without a match: 15 where there is none and the buffer is too short; a refusal stays
-abbrev pub if_none : Outcome → Replayed → Replayed → Replayed
-if_none None a b = a
-if_none (Match n) a b = b
-if_none (PatternRefused k o) a b = b
-if_none (LogRefused k o) a b = b
-
-abbrev pub without_match : Judged → Bool → Replayed
-without_match j short = if_none j.outcome (cond short too_short_replayed (record { judged = j; length = 0 })) (record { judged = j; length = 0 })
+abbrev pub length_part : Result Replayed RunRefusal → ℕ
+length_part (Ok r) = r.length
+length_part (Err e) = 0
