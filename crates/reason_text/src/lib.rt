@@ -1,23 +1,21 @@
 // What the program `reason` prints, as text in a lent buffer: the listing, and under `no match` why there is none.
 #![tactic(auto)]
 
-ghost use Rattle.std.specs.Prelude.{◌≡◌, length};
+ghost use Rattle.std.specs.Prelude.{◌≡◌, length, Some};
 ghost use Rattle.event.specs.Limits.{slots};
 ghost use Rattle.page.specs.Page.{empty_page, onto, Adds, PutIn};
 ghost use Rattle.reason_text.specs.CauseText.{slot_event, way_text, cause_text, reasoned_text};
 ghost use Rattle.reason_text.specs.ReasonText.{ReasonText};
 
+use event::refusal::Refused;
 use page::Page;
-use run::Judged;
-use verdict_reason::Cause;
-use writer::Written;
+use verdict_reason::{Cause, Reasoned};
 
 // Writes what is printed for a pattern and a log at the start of a lent buffer.
-pub fn write(pattern: &[u8], log: &[u8], buffer: &mut [u8]) -> Written
+pub fn write(pattern: &[u8], log: &[u8], buffer: &mut [u8]) -> Result<usize, Refused>
     ensures { PutIn (ReasonText pattern.now log.now) buffer.old buffer.new result }
 {
-    let page = reasoned(pattern, log);
-    page.put(buffer)
+    reasoned(pattern, log).put(buffer)
 }
 
 fn reasoned(pattern: &[u8], log: &[u8]) -> Page
@@ -30,29 +28,39 @@ fn reasoned(pattern: &[u8], log: &[u8]) -> Page
     if page::LONGEST < log.len() {
         return p.too_long();
     }
-    let r = verdict_reason::reason(pattern, log);
-    let judged = r.judged;
-    let cause = r.cause;
-    let events = r.events;
-    lines(p, log, judged, cause, events)
+    match verdict_reason::reason(pattern, log) {
+        Ok(reasoned) => lines(p, log, reasoned),
+        Err(refusal) => listing_text::verdict(p, Err(refusal), log),
+    }
 }
 
 // What a run said, then the lines of the slots before the one that can't be filled, and its own.
-fn lines(p: Page, log: &[u8], judged: Judged, cause: Cause, events: [u16; event::SLOTS]) -> Page
-    ensures text { result ≡ onto p (reasoned_text log.now judged cause events) }
-    ensures places { length judged.numbers ≡ slots }
+#[tactic(auto, using(page::proofs::Onto::onto_append, page::proofs::Onto::onto_none))]
+fn lines(p: Page, log: &[u8], r: Reasoned) -> Page
+    ensures text { result ≡ onto p (reasoned_text log.now r.verdict r.cause r.events) }
+    ensures places { length r.verdict.numbers ≡ slots }
 {
-    let verdict = listing_text::verdict(p, judged, log);
-    let earlier = listing_text::slot_lines(verdict, log, events);
-    cause_line(earlier, log, cause, events)
+    let verdict = listing_text::verdict(p, Ok(r.verdict), log);
+    let earlier = listing_text::slot_lines(verdict, log, r.events);
+    cause_line(earlier, log, r.cause, r.events)
 }
 
-// The line of the slot that can't be filled; none with a match or a refusal.
-fn cause_line(p: Page, log: &[u8], cause: Cause, events: [u16; event::SLOTS]) -> Page
+// The line of the slot that can't be filled; none with a match.
+#[tactic(auto, using(page::proofs::Onto::onto_none))]
+fn cause_line(p: Page, log: &[u8], cause: Option<Cause>, events: [u16; event::SLOTS]) -> Page
     ensures { result ≡ onto p (cause_text log.now cause events) }
 {
     match cause {
-        Cause::Decided => p,
+        Some(cause) => way(p, log, cause, events),
+        None => p,
+    }
+}
+
+// What stands in the way of the slot.
+fn way(p: Page, log: &[u8], cause: Cause, events: [u16; event::SLOTS]) -> Page
+    ensures { result ≡ onto p (cause_text log.now (Some cause) events) }
+{
+    match cause {
         Cause::NoFit { slot } => p.number(slot).text(b" no event fits\n"),
         Cause::TooEarly {
             slot,
@@ -67,6 +75,7 @@ fn cause_line(p: Page, log: &[u8], cause: Cause, events: [u16; event::SLOTS]) ->
 }
 
 // How the event stands to that of an earlier slot: it is the same, or comes before it.
+#[tactic(auto, using(page::proofs::Onto::onto_append, page::proofs::Onto::onto_none))]
 fn way_line(p: Page, same: bool, earlier: usize) -> Page
     ensures { result ≡ onto p (way_text same earlier) }
 {

@@ -1,9 +1,6 @@
 use mathlib.Core.Path.{sym}
-use Rattle.page.proofs.Onto.{onto_none, onward}
-use Rattle.reason_text.proofs.cause_line.Goals as goal
-
-pub returns-in-Decided : goal.returns-in-Decided
-returns-in-Decided c = rw c.in-Decided.is (onto_none _)
+use Rattle.page.proofs.Onto.{onward}
+use Rattle.reason_text.proofs.way.Goals as goal
 
 pub returns-in-NoFit : goal.returns-in-NoFit
 returns-in-NoFit c = rw c.in-NoFit.is (onward _ _ _ _ _ c.number.ensures c.text.ensures)
