@@ -177,6 +177,7 @@ fn listen(clocks: &[u16; CLOCKS], t: u8, rows: Rows) -> Stamp
 }
 
 // The stamp raised to the row that starts at `from`.
+#[tactic(auto, unfolding(crate::specs::Clocks::raised, event::specs::Updated::updated))]
 fn hear(s: Stamp, counts: &[u16], from: usize) -> Stamp
     requires { from + threads ≤ length counts.now }
     ensures { result ≡ heard_from s counts.now from }
@@ -190,6 +191,7 @@ fn hear(s: Stamp, counts: &[u16], from: usize) -> Stamp
 }
 
 // Raises the row to the stamp.
+#[tactic(auto, unfolding(crate::specs::Clocks::raised, event::specs::Updated::updated))]
 fn tell(clocks: &mut [u16; CLOCKS], to: usize, s: Stamp)
     requires { to + threads ≤ size }
     ensures { clocks.new ≡ told_to clocks.old to s }
@@ -207,6 +209,7 @@ pub fn larger(x: u16, y: u16) -> u16
 }
 
 // One more of thread t. It goes through every entry, so that the counts stay in one vector.
+#[tactic(auto, unfolding(event::specs::Updated::updated))]
 fn tick(s: Stamp, t: usize) -> Stamp
     ensures { result ≡ ticked_at s t }
 {

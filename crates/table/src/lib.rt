@@ -81,11 +81,9 @@ pub fn offer(
     if size > event::SLOTS {
         return;
     }
-    let place = one_less(stamp.at[t]);
+    let place = stamp.at[t].saturating_sub(1);
     let half = power(size) / 2;
-    let mut k = size;
-    while k > 0 {
-        k -= 1;
+    for k in (0..size).rev() {
         if fit[k] {
             let limits = limits_after(acting, k, stamp);
             let entry = Entry {
@@ -98,46 +96,27 @@ pub fn offer(
     }
 }
 
-fn one_less(x: u16) -> u16
-    ensures { result ≡ x - 1 }
-{
-    if x == 0 { 0 } else { x - 1 }
-}
-
 fn power(k: usize) -> usize
     requires { k ≤ slot_limit }
     ensures { result ≡ 2 ^ k }
 {
-    match k {
-        0 => 1,
-        1 => 2,
-        2 => 4,
-        3 => 8,
-        4 => 16,
-        _ => 32,
-    }
+    1 << k
 }
 
 // The events of later slots may not come before the new one or be it: their places are at least its count of their threads.
+#[tactic(auto, unfolding(event::specs::Updated::updated))]
 fn limits_after(acting: [u8; event::SLOTS], k: usize, stamp: Stamp) -> Limits
     ensures { result ≡ limits_after acting k stamp }
 {
     let mut r = Limits { at: [0; LANES] };
     for j in 0..event::SLOTS {
-        let x = limit(acting[j], j > k, stamp);
-        r.at[j] = x;
+        r.at[j] = if j > k {
+            clock::count_of(acting[j], stamp)
+        } else {
+            0
+        };
     }
     r
-}
-
-fn limit(thread: u8, later: bool, stamp: Stamp) -> u16
-    ensures { result ≡ limit_at thread later stamp }
-{
-    if later {
-        clock::count_of(thread, stamp)
-    } else {
-        0
-    }
 }
 
 // Goes through the sets without the entry's slot, which are half of all: the bits of i, with a 0 pasted in at the slot.
@@ -154,6 +133,7 @@ fn sweep(table: &mut [u16; TABLE], half: usize, limits: Limits, entry: Entry)
 }
 
 // With the entry pasted into its row, the set m, which has not the entry's slot, gives the row of the set that has it too.
+#[tactic(auto, unfolding(crate::specs::Table::set_offered))]
 fn offer_set(table: &mut [u16; TABLE], m: usize, p: usize, limits: Limits, entry: Entry)
     requires { (entry.slot < slot_limit) × ((m + p < sets) × (p ≡ 2 ^ entry.slot)) }
     ensures { table.new ≡ set_offered table.old m limits entry }
@@ -180,6 +160,7 @@ fn join(table: &mut [u16; TABLE], to: usize, r: Row, entry: Entry)
     table[to + LANES + k] = entry.number;
 }
 
+#[tactic(auto, unfolding(event::specs::Updated::updated, crate::specs::Table::row_at))]
 fn row_at(table: &[u16; TABLE], from: usize) -> Row
     requires { from + width ≤ table_size }
     ensures { result ≡ row_at table.now from }
@@ -191,6 +172,7 @@ fn row_at(table: &[u16; TABLE], from: usize) -> Row
     r
 }
 
+#[tactic(auto, unfolding(event::specs::Updated::updated))]
 fn store(table: &mut [u16; TABLE], to: usize, r: Row)
     requires { to + width ≤ table_size }
     ensures { table.new ≡ pasted width table.old to r.at 0 }
@@ -200,7 +182,8 @@ fn store(table: &mut [u16; TABLE], to: usize, r: Row)
     }
 }
 
-// Compares every lane, so that the row stays one vector.
+// Kept: every lane is compared, where `all` would stop at the first that is too low, so that the row stays one vector.
+#[tactic(auto, unfolding(crate::specs::Table::room_to))]
 fn room(r: Row, limits: Limits) -> bool
     ensures { result ≡ room_in r limits }
 {
@@ -212,15 +195,12 @@ fn room(r: Row, limits: Limits) -> bool
 }
 
 // Whether the set of all slots has a row; no for a pattern of too many slots.
+#[tactic(auto, unfolding(crate::specs::Table::found_in), using(crate::proofs::Verdict::found_match))]
 pub fn found(table: &[u16; TABLE], size: usize) -> bool
     ensures exact { result ≡ found_in table.now size }
     ensures history { (fits : Fits) (ss : List Slot) (log : List Event) → Keeps fits ss log table.now → size ≡ length ss → (result ≡ true) ↔ HasMatch dependent fits ss log }
 {
-    if size > event::SLOTS {
-        return false;
-    }
-    let last = last_row(size);
-    table[last + HELD] != 0
+    size <= event::SLOTS && table[last_row(size) + HELD] != 0
 }
 
 // The count once event number n has been offered: n where all slots have a row, else 0.

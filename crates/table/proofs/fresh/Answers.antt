@@ -1,7 +1,6 @@
 use mathlib.Core.Path.{◌≡◌}
 use Rattle.table.proofs.Start.{nothing_yet}
 use Rattle.table.specs.Table.{fresh_table}
-use borrow.Author.Rules.{rules}
 use Rattle.table.proofs.fresh.Goals as goal
 
 pub returns : goal.returns

@@ -5,7 +5,6 @@ use Rattle.event.specs.Limits.{slots as slot_limit}
 use native.Mathlib.Omega.{arith}
 use Rattle.table.proofs.SetLaws.{powers}
 use Rattle.table.specs.Sets.{sets}
-use borrow.Author.Rules.{rules}
 use Rattle.table.proofs.last_row.Goals as goal
 
 bounds : (n p : ℕ) → n ≤ slot_limit → p ≡ 2 ^ n → (1 ≤ p) × (p ≤ sets)

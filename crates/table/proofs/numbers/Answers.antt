@@ -1,15 +1,11 @@
-use Prim.Native.Nat.{ℕ, ◌+◌, ◌-◌, ◌≤◌}
+use Prim.Native.Nat.{ℕ}
 use native.Mathlib.Omega.{arith}
 use native.Mathlib.Numerals.{add-one}
 use native.Mathlib.Nat.{zero-add}
 use mathlib.Core.Path.{◌≡◌, refl, sym, ◌∙◌}
-use Rattle.event.specs.Limits.{slots as slot_limit}
 use Rattle.event.specs.Updated.{updated}
-use Rattle.table.specs.Sets.{lanes, width, size as table_size}
-use Rattle.table.specs.Table.{pasted, found_in, numbers_in}
+use Rattle.table.specs.Table.{numbers_in}
 use Rattle.table.proofs.SetLaws.{found_small}
-use borrow.Author.Tests.{not-true, not-false}
-use mathlib.Core.Bool.{true}
 use mathlib.Core.List.{List}
 use lib.ListN.{length}
 use Rattle.event.specs.declared.Slot.{Slot}

@@ -68,7 +68,7 @@ sweep-requires c = let l : c.args.size ≤ slot_limit = c.if-size-gt-SLOTS.false
     (omega arith, let h = powers c.args.size l in omega (arith, c.power-half.ensures))
 
 pub loop-k-preserved-then-fit-k : goal.loop-k-preserved-then-fit-k
-loop-k-preserved-then-fit-k c = (search rules, fitting _ _ _ _ _ _ _ _ _ _ _ _ c.loop-k-test.true c.power-half.ensures c.one_less-place.ensures c.limits_after-limits.ensures c.if-fit-k.true c.sweep.ensures ∙ c.loop-k.invariant.1)
+loop-k-preserved-then-fit-k c = (search rules, fitting _ _ _ _ _ _ _ _ _ _ _ _ c.loop-k-test.true c.power-half.ensures c.saturating_sub-place.ensures c.limits_after-limits.ensures c.if-fit-k.true c.sweep.ensures ∙ c.loop-k.invariant.1)
 
 pub loop-k-preserved : goal.loop-k-preserved
 loop-k-preserved c = (search rules, passing _ _ _ _ _ _ _ _ c.loop-k-test.true c.if-fit-k.false ∙ c.loop-k.invariant.1)

@@ -1,20 +1,6 @@
-use Prim.Native.Nat.{ℕ, zero, suc, ◌-◌, ◌/◌, ◌^◌, ◌≤◌, ◌<◌}
-use native.Mathlib.Omega.{arith}
-use mathlib.Core.Path.{◌≡◌, refl, ◌∙◌}
-use mathlib.Core.Bool.{Bool, true, false}
-use mathlib.Core.List.{List, [], ◌∷◌, ◌++◌}
-use lib.ListN.{get_or}
-use borrow.Author.Tests.{lt-ltb, le-ltb, le-leb, lt-leb}
-use Rattle.event.specs.Limits.{slots as slot_limit}
-use Rattle.event.specs.declared.Slot.{Slot}
-use Rattle.event.specs.declared.Event.{Event}
-use Rattle.clock.specs.declared.Stamp.{Stamp}
-use Rattle.table.specs.declared.Limits.{Limits}
-use Rattle.table.specs.Table.{limits_after, place_by, swept_to, slot_offered, offered_down, offered}
-use Rattle.table.specs.Keeps.{Fits, ByThread, Keeps, Follows}
-use Rattle.table.proofs.SetLaws.{powers}
-use Rattle.table.proofs.History.{offer_kept}
-use borrow.Author.Rules.{rules}
+use Prim.Native.Nat.{◌≤◌}
+use mathlib.Core.Path.{◌≡◌}
+use Rattle.table.specs.Table.{offered_down}
 use Rattle.table.proofs.offer.Given as goal
 
 abbrev pub invariant-loop-k : goal.invariant-loop-k

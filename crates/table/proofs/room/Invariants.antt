@@ -1,10 +1,7 @@
 use Prim.Native.Nat.{◌-◌, ◌≤◌}
-use native.Mathlib.Omega.{arith}
-use native.Mathlib.Numerals.{add-one}
-use mathlib.Core.Path.{◌≡◌, refl}
+use mathlib.Core.Path.{◌≡◌}
 use Rattle.table.specs.Sets.{lanes}
 use Rattle.table.specs.Table.{room_to}
-use borrow.Author.Rules.{rules}
 use Rattle.table.proofs.room.Given as goal
 
 abbrev pub invariant-loop-j : goal.invariant-loop-j

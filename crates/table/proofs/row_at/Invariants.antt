@@ -1,13 +1,7 @@
-use Prim.Native.Nat.{ℕ, ◌-◌, ◌≤◌}
-use native.Mathlib.Omega.{arith}
-use native.Mathlib.Numerals.{add-one}
-use native.Mathlib.Nat.{zero-add}
-use mathlib.Core.Path.{◌≡◌, refl, ap}
-use mathlib.Core.List.{List}
-use Rattle.event.specs.Updated.{updated}
+use Prim.Native.Nat.{◌-◌, ◌≤◌}
+use mathlib.Core.Path.{◌≡◌}
 use Rattle.table.specs.Sets.{width}
-use Rattle.table.specs.Table.{pasted, row_at}
-use borrow.Author.Rules.{rules}
+use Rattle.table.specs.Table.{pasted}
 use Rattle.table.proofs.row_at.Given as goal
 
 abbrev pub invariant-loop-j : goal.invariant-loop-j
