@@ -63,12 +63,9 @@ pub fn given_pair(rt: &impl Env) -> Option<(u64, u64)> {
 
 // How many arguments this program was started with, its own name among them.
 pub fn arg_count(rt: &impl Env) -> usize {
-    for n in 0..usize::MAX {
-        if let Err(FillError::NotPresent) = rt.arg(n, &mut []) {
-            return n;
-        }
-    }
-    usize::MAX
+    (0..usize::MAX)
+        .find(|&n| matches!(rt.arg(n, &mut []), Err(FillError::NotPresent)))
+        .unwrap_or(usize::MAX)
 }
 
 // Puts the n-th argument at the start of a space, and answers its length: 0 where there is none, or where it is longer than the space.
