@@ -11,8 +11,8 @@ use Rattle.session.specs.declared.Session.{Session}
 use Rattle.session.specs.Model.{fresh_on, handed_all}
 use Rattle.row_batch.specs.Batch.{events_of}
 use Rattle.row_pass.specs.declared.Filled.{Filled}
-use Rattle.row_pass.specs.declared.LogFault.{LogFault}
-use Rattle.row_pass.specs.declared.LogFault.TheVariants as fault
+use Rattle.row_pass.specs.declared.FileFault.{FileFault}
+use Rattle.row_pass.specs.declared.FileFault.TheVariants as fault
 
 -- ---- some events of a log
 
@@ -50,7 +50,7 @@ pub record FilledFrom (bytes : List ℕ) (from : ℕ) (past : List Event) (r : F
 -- ---- the whole log
 
 -- how a log ends
-pub data EndsAs (log : List ℕ) : Result Unit LogFault → Type 0 where
+pub data EndsAs (log : List ℕ) : Result Unit FileFault → Type 0 where
   broken : {r : Refused} → read_log log ≡ refused (refusal_number r.reason) r.offset → EndsAs log (Err (fault.Refused r))
   whole : {es : List Event} → Accepted es → read_log log ≡ accepted es → EndsAs log (Ok tt)
 

@@ -15,9 +15,9 @@ use row_batch::{BATCH, Batch};
 use session::Session;
 use session_row::PLACES;
 
-// Why a log is not read to its end: it is too long, which is for those to say that don't go through it; or refused.
+// Why a file is not read to its end: it is too long, which of a log is for those to say that don't go through it; or it is refused.
 #[derive(Clone, Copy)]
-pub enum LogFault {
+pub enum FileFault {
     TooLong,
     Refused(Refused),
 }
@@ -36,7 +36,7 @@ struct Filled {
 // A log gone through: how it ended, and the sessions afterwards.
 #[derive(Clone, Copy)]
 pub struct Passed {
-    pub end: Result<(), LogFault>,
+    pub end: Result<(), FileFault>,
     pub sessions: [Session; PLACES],
 }
 
@@ -64,7 +64,7 @@ pub fn pass(sessions: [Session; PLACES], n: usize, log: &[u8]) -> Passed
             }
             Err(refused) => {
                 return Passed {
-                    end: Err(LogFault::Refused(refused)),
+                    end: Err(FileFault::Refused(refused)),
                     sessions: held,
                 };
             }

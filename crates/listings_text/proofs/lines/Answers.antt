@@ -1,13 +1,11 @@
 use native.Mathlib.Omega.{arith}
-use Prim.Native.Nat.{suc, ◌-◌, ◌*◌, ◌≤◌}
 use native.Mathlib.Numerals.{add-one}
 use mathlib.Core.Path.{◌≡◌, sym, ◌∙◌}
-use lib.ListN.{length}
 use borrow.Author.Rules.{rules}
-use Rattle.page.specs.Page.{empty_page, onto}
+use Rattle.page.specs.Page.{empty_page}
 use Rattle.page.proofs.Onto.{onto_none}
 use Rattle.session_row.specs.Row.{most}
-use Rattle.listings_text.specs.Lines.{line_width, lines_before}
+use Rattle.listings_text.specs.Lines.{lines_before}
 use Rattle.listings_text.proofs.Widths.{next_line}
 use Rattle.listings_text.proofs.lines.Goals as goal
 

@@ -1,14 +1,9 @@
-use native.Mathlib.Omega.{arith}
-use Prim.Native.Nat.{suc, ◌-◌, ◌*◌, ◌≤◌}
-use native.Mathlib.Numerals.{add-one}
-use mathlib.Core.Path.{◌≡◌, sym, ◌∙◌}
+use Prim.Native.Nat.{◌-◌, ◌*◌, ◌≤◌}
+use mathlib.Core.Path.{◌≡◌}
 use lib.ListN.{length}
-use borrow.Author.Rules.{rules}
 use Rattle.page.specs.Page.{empty_page, onto}
-use Rattle.page.proofs.Onto.{onto_none}
 use Rattle.session_row.specs.Row.{most}
 use Rattle.listings_text.specs.Lines.{line_width, lines_before}
-use Rattle.listings_text.proofs.Widths.{next_line}
 use Rattle.listings_text.proofs.lines.Given as goal
 
 abbrev pub invariant-loop-k : goal.invariant-loop-k

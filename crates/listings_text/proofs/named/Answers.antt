@@ -1,4 +1,3 @@
-use borrow.Author.Rules.{rules}
 use Rattle.page.proofs.Onto.{onward, onto_one}
 use mathlib.Core.Path.{sym, ◌∙◌}
 use native.Mathlib.Numerals.{add-one}

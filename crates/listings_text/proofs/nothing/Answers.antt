@@ -1,4 +1,3 @@
-use borrow.Author.Rules.{rules}
 use Rattle.listings_text.proofs.Watching.{before_all}
 use Rattle.listings_text.proofs.nothing.Goals as goal
 
