@@ -2,41 +2,43 @@
 // where they differ". All lists of numbers from 1 to the count are gone through in rising order, up to the first that satisfies the rule.
 use crate::tally;
 use crate::tally::{COUNTS, FIRST};
-use run::{Judged, Outcome};
+use run::RunRefusal;
+use session::Verdict;
 use swap_search::lists;
-use swap_search::lists::LISTS;
 use swap_search::truth::Truth;
 
 // Whether the run names the first list, where it says that there is a match.
-pub(crate) fn agrees(judged: Judged, t: Truth, counts: &mut [u64; COUNTS]) -> bool {
-    let outcome = judged.outcome;
-    let numbers = judged.numbers;
-    let Outcome::Match { count } = outcome else {
+pub(crate) fn agrees(
+    judged: Result<Verdict, RunRefusal>,
+    t: Truth,
+    counts: &mut [u64; COUNTS],
+) -> bool {
+    let Ok(verdict) = judged else {
         return true;
     };
-    named_first(t, count, numbers, counts)
+    let Some(count) = verdict.found else {
+        return true;
+    };
+    named_first(t, count, verdict.numbers, counts)
 }
 
 // How many runs were compared, how many of these had more than one list to name, and how many named another than the first.
 fn named_first(t: Truth, count: usize, numbers: [u16; 5], counts: &mut [u64; COUNTS]) -> bool {
-    let first = lists::first_from(t, size_of(t), count, 0);
-    let right = first < LISTS
-        && lists::same_from(numbers, lists::list_of(first, count, size_of(t)), 0);
+    let size = t.sketch.size;
+    let first = lists::first_from(t, size, count, 0);
+    let list = first.and_then(|n| lists::list_of(n, count, size));
+    let right = list == Some(numbers);
     tally::add(counts, FIRST, 1);
-    tally::add_if(counts, FIRST + 1, another(t, count, first));
+    tally::add_if(
+        counts,
+        FIRST + 1,
+        first.is_some_and(|n| another(t, count, n)),
+    );
     tally::add_if(counts, FIRST + 2, !right);
     right
 }
 
 // Whether a list after the first satisfies the rule too.
 fn another(t: Truth, count: usize, first: u32) -> bool {
-    if LISTS <= first {
-        return false;
-    }
-    lists::first_from(t, size_of(t), count, first + 1) < LISTS
-}
-
-fn size_of(t: Truth) -> usize {
-    let k = t.sketch;
-    k.size
+    lists::first_from(t, t.sketch.size, count, first.saturating_add(1)).is_some()
 }

@@ -32,18 +32,16 @@ fn orders_of(queue: &mut [u32], seen: &mut [bool], threads: u8) -> u64 {
 fn marks(threads: u8) -> [u32; MOST] {
     let mut events = [mark(0); MOST];
     let mut next: u8 = 0;
-    for i in 0..MOST {
-        events[i] = mark(next);
+    for event in events.iter_mut() {
+        *event = mark(next);
         next = after(next, threads);
     }
     events
 }
 
 fn after(thread: u8, threads: u8) -> u8 {
-    if thread < event::THREADS {
-        if thread + 1 < threads {
-            return thread + 1;
-        }
+    if thread < event::THREADS && thread + 1 < threads {
+        return thread + 1;
     }
     0
 }

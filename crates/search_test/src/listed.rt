@@ -1,11 +1,14 @@
 // All orders that the library gives of a log, one after another, held to those that the plain search finds: each is one of them, larger than the one before it,
 // and they are as many. Whether one of them holds the pattern is held to what a run says.
+ghost use Rattle.std.specs.Prelude.{◌<◌};
+
 use crate::tally::{COUNTS, LISTED};
 use crate::{compare, tally};
-use event_log::LogRead;
+use event::refusal::{Refusal, Refused};
 use order_rows::PLACES;
-use orders_log::{Given, GivenRow};
-use run::Judged;
+use orders_log::OrdersRefusal;
+use run::RunRefusal;
+use session::Verdict;
 use swap_search::orders::Question;
 use swap_search::truth::Truth;
 use swap_search::{orders, truth};
@@ -18,6 +21,13 @@ struct Gone {
     holds: bool,
 }
 
+// Before any order.
+const NONE_GIVEN: Gone = Gone {
+    right: true,
+    given: 0,
+    holds: false,
+};
+
 // How many orders were given, in how many logs one of them holds the pattern, how many lists were asked for that are no order, how many logs were wrong, and in how
 // many an order that the search did not find is seen to be wrong.
 pub(crate) fn agree(
@@ -25,16 +35,14 @@ pub(crate) fn agree(
     seen: &mut [bool],
     log: &[u8],
     t: Truth,
-    read: LogRead,
-    judged: Judged,
+    read: Result<usize, Refused>,
+    judged: Result<Verdict, RunRefusal>,
     counts: &mut [u64; COUNTS],
 ) -> bool {
-    let l = t.leading;
-    let k = t.sketch;
-    let q = truth::question(l, k, l.count);
-    if !drawn::accepted(read) {
-        return held(counts, refuses(log, read));
+    if let Err(refused) = read {
+        return held(counts, refuses(log, refused));
     }
+    let q = truth::question(t.leading, t.sketch, t.leading.count);
     let found = orders::all(queue, seen, q);
     let w = go_through(seen, log, q);
     orders::clear(queue, seen, found);
@@ -48,13 +56,10 @@ pub(crate) fn agree(
 
 // Whether the first order is held to be wrong once the search has forgotten it, so that the comparison is seen to fail.
 fn refutes(seen: &[bool], log: &[u8], q: Question) -> bool {
-    let before = Gone {
-        right: true,
-        given: 0,
-        holds: false,
+    let Ok(Some(row)) = orders_log::first(log) else {
+        return true;
     };
-    let w = one_more(before, seen, [0u8; PLACES], orders_log::first(log), q, 0);
-    !w.right
+    !one_more(NONE_GIVEN, seen, None, row, q).right
 }
 
 // Counts one more where it is not so.
@@ -64,85 +69,45 @@ fn held(counts: &mut [u64; COUNTS], so: bool) -> bool {
 }
 
 // Whether both calls refuse the log as reading it does.
-fn refuses(log: &[u8], read: LogRead) -> bool {
-    log_refused(orders_log::first(log), read) && log_refused(orders_log::next(log, b""), read)
-}
-
-fn log_refused(r: GivenRow, read: LogRead) -> bool {
-    let given = r.given;
-    let row = r.row;
-    match given {
-        Given::LogRefused { number, offset } => {
-            compare::refused_with(read, number, offset) && rank(row) == 0
-        }
-        _ => false,
-    }
+fn refuses(log: &[u8], refused: Refused) -> bool {
+    let due = Err(OrdersRefusal::Log(refused));
+    orders_log::first(log) == due && orders_log::next(log, b"") == due
 }
 
 // From the first order to the last. Seven events have so many orders at most.
 fn go_through(seen: &[bool], log: &[u8], q: Question) -> Gone {
-    let mut w = Gone {
-        right: true,
-        given: 0,
-        holds: false,
-    };
-    let mut before = [0u8; PLACES];
-    let mut r = orders_log::first(log);
-    for n in 0..orders::ORDERS {
-        let row = r.row;
-        w = one_more(w, seen, before, r, q, n);
-        before = row;
-        r = orders_log::next(log, &row);
-        if !is_order(r) {
-            return ended(w, r);
-        }
+    let mut w = NONE_GIVEN;
+    let mut before = None;
+    let mut given = orders_log::first(log);
+    for _ in 0..orders::ORDERS {
+        let Ok(Some(row)) = given else {
+            break;
+        };
+        w = one_more(w, seen, before, row, q);
+        before = Some(row);
+        given = orders_log::next(log, &row);
     }
-    ended(w, r)
+    Gone {
+        right: w.right && given == Ok(None),
+        ..w
+    }
 }
 
-// The order number n, counted from 0: one that the search found, and larger than the one before it.
+// One order more: one that the search found, and larger than the one before it.
 fn one_more(
     w: Gone,
     seen: &[bool],
-    before: [u8; PLACES],
-    r: GivenRow,
+    before: Option<[u8; PLACES]>,
+    row: [u8; PLACES],
     q: Question,
-    n: usize,
 ) -> Gone {
-    let row = r.row;
     let order = events_of(row, q.count);
-    let rising = n == 0 || rank(before) < rank(row);
+    let rising = before.is_none_or(|smaller| smaller < row);
     let reached = orders::marked(seen, order) && beyond(row, q.count);
     Gone {
-        right: w.right && is_order(r) && rising && reached,
-        given: n % 8192 + 1,
+        right: w.right && rising && reached,
+        given: w.given.saturating_add(1),
         holds: w.holds || orders::holds(order, q),
-    }
-}
-
-fn is_order(r: GivenRow) -> bool {
-    let given = r.given;
-    match given {
-        Given::Order => true,
-        _ => false,
-    }
-}
-
-// "all are 0 after the last"
-fn ended(w: Gone, r: GivenRow) -> Gone {
-    let row = r.row;
-    Gone {
-        right: w.right && is_last(r) && rank(row) == 0,
-        given: w.given,
-        holds: w.holds,
-    }
-}
-
-fn is_last(r: GivenRow) -> bool {
-    let given = r.given;
-    match given {
-        Given::Last => true,
-        _ => false,
     }
 }
 
@@ -168,27 +133,14 @@ fn event_of(number: u8, count: usize, i: usize) -> usize {
 
 // Whether the places beyond so many hold 0.
 fn beyond(row: [u8; PLACES], count: usize) -> bool {
-    for i in 0..PLACES {
-        if count <= i && row[i] != 0 {
-            return false;
-        }
-    }
-    true
+    row.iter().skip(count).all(|k| *k == 0)
 }
 
-// A row as a number: a digit in base 9 for each place, the first place highest.
-fn rank(row: [u8; PLACES]) -> u64 {
-    let mut n: u64 = 0;
-    for i in 0..PLACES {
-        n = n % 4782969 * 9 + (row[i] % 9) as u64;
-    }
-    n
-}
-
-// The recorded order with two neighbours turned round is refused with 26 where they are dependent, and else is an order.
+// The recorded order with two neighbours turned round is refused where they are dependent, and else is an order.
 fn turned_round(log: &[u8], q: Question, counts: &mut [u64; COUNTS]) -> bool {
-    let first = orders_log::first(log);
-    let row = first.row;
+    let Ok(Some(row)) = orders_log::first(log) else {
+        return false;
+    };
     let mut right = true;
     for i in 0..6 {
         if i + 1 < q.count {
@@ -204,25 +156,14 @@ fn turned_at(
     row: [u8; PLACES],
     i: usize,
     counts: &mut [u64; COUNTS],
-) -> bool {
-    if 6 <= i {
-        return false;
-    }
+) -> bool
+    requires { i < 7 }
+{
     let mut turned = row;
-    turned[i] = row[i + 1];
-    turned[i + 1] = row[i];
-    let r = orders_log::next(log, &turned);
-    let events = q.events;
-    let dependent = plain::dependent_places(events, i, i + 1);
+    turned.swap(i, i + 1);
+    let given = orders_log::next(log, &turned);
+    let dependent = plain::dependent_places(q.events, i, i + 1);
     tally::add_if(counts, LISTED + 2, dependent);
-    refused_26(r) == dependent
-}
-
-fn refused_26(r: GivenRow) -> bool {
-    let given = r.given;
-    let row = r.row;
-    match given {
-        Given::OrdersRefused { number, offset } => number == 26 && offset == 0 && rank(row) == 0,
-        _ => false,
-    }
+    let refused = given == Err(OrdersRefusal::Orders(Refusal::NoOrder.at(0)));
+    refused == dependent
 }

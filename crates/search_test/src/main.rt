@@ -12,8 +12,9 @@ mod replays;
 mod tally;
 mod threads;
 
-use event_log::LogRead;
-use run::Judged;
+use event::refusal::Refused;
+use run::RunRefusal;
+use session::Verdict;
 use swap_search::samples::Sample;
 use swap_search::truth::Truth;
 use swap_search::{orders, samples};
@@ -56,17 +57,13 @@ fn on_log(
     s: Sample,
     counts: &mut [u64; COUNTS],
 ) {
-    let log_size = s.log;
-    let pattern_size = s.pattern;
     let t = s.truth;
-    if log.len() < log_size {
+    let Some(p) = pattern.get(..s.pattern) else {
         return;
-    }
-    if pattern.len() < pattern_size {
+    };
+    let Some(l) = log.get(..s.log) else {
         return;
-    }
-    let p = &pattern[..pattern_size];
-    let l = &log[..log_size];
+    };
     pairs::of(l, t.leading, counts);
     compared(queue, seen, p, l, t, counts);
 }
@@ -92,7 +89,13 @@ fn compared(
     }
 }
 
-fn agree(pattern: &[u8], log: &[u8], t: Truth, read: LogRead, judged: Judged) -> bool {
+fn agree(
+    pattern: &[u8],
+    log: &[u8],
+    t: Truth,
+    read: Result<usize, Refused>,
+    judged: Result<Verdict, RunRefusal>,
+) -> bool {
     compare::run_agrees(judged, t, read) && compare::session_agrees(pattern, log, t, read)
 }
 

@@ -4,19 +4,20 @@ ghost use Rattle.std.specs.Prelude.{◌≤◌};
 use crate::grouped::SPACE;
 use crate::tally::{COUNTS, REPLAYS};
 use crate::{compare, grouped, tally};
-use event_log::LogRead;
+use event::refusal::{Refusal, Refused};
 use plain::Leading;
-use run::{Judged, Outcome};
+use replay_log::Replayed;
+use run::RunRefusal;
+use session::Verdict;
 use swap_search::orders::Question;
 use swap_search::patterns::Sketch;
 use swap_search::truth::Truth;
-use swap_search::{lists, orders, truth};
+use swap_search::{orders, truth};
 
 // What a replay call gave, and the bytes afterwards, of which a part was lent.
 #[derive(Clone, Copy)]
 struct Call {
-    judged: Judged,
-    length: usize,
+    replayed: Result<Replayed, RunRefusal>,
     buffer: [u8; SPACE],
 }
 
@@ -28,7 +29,7 @@ pub(crate) fn agree(
     pattern: &[u8],
     log: &[u8],
     t: Truth,
-    judged: Judged,
+    judged: Result<Verdict, RunRefusal>,
     counts: &mut [u64; COUNTS],
 ) -> bool {
     let size = log.len();
@@ -36,29 +37,19 @@ pub(crate) fn agree(
         return false;
     }
     let read = event_log::read_log(log);
-    let matched = drawn::accepted(read) & t.present();
+    let matched = read.is_ok() && t.present();
     let call = ask(pattern, log, size + size % 3);
-    let short = ask(pattern, log, less(size));
+    let short = ask(pattern, log, size.saturating_sub(1));
     tally::add(counts, REPLAYS, 1);
     tally::add_if(counts, REPLAYS + 1, matched);
     let answered = held(counts, REPLAYS + 3, answers(call, t, read, judged));
     let written = held(counts, REPLAYS + 4, writes(call, matched, log, t));
     let refused = held(counts, REPLAYS + 5, refuses(short, t, read));
-    let right = answered & written & refused;
+    let right = answered && written && refused;
     if !matched {
         return right;
     }
-    shows(queue, seen, pattern, t, call, counts) & right
-}
-
-// One less, where there is one.
-fn less(n: usize) -> usize
-    ensures { result ≤ n }
-{
-    if n < 1 {
-        return n;
-    }
-    n - 1
+    shows(queue, seen, pattern, t, call, counts) && right
 }
 
 // Counts one more where it is not so.
@@ -72,21 +63,31 @@ fn ask(pattern: &[u8], log: &[u8], room: usize) -> Call
     requires { room ≤ 64 }
 {
     let mut buffer = [0xAAu8; SPACE];
-    let r = replay_log::write(pattern, log, &mut buffer[..room]);
-    let judged = r.judged;
-    Call {
-        judged,
-        length: r.length,
-        buffer,
+    let replayed = replay_log::write(pattern, log, &mut buffer[..room]);
+    Call { replayed, buffer }
+}
+
+impl Call {
+    // What the call says of the log.
+    fn judged(self) -> Result<Verdict, RunRefusal> {
+        self.replayed.map(|r| r.verdict)
+    }
+
+    // How many bytes it says that it has written.
+    fn length(self) -> usize {
+        self.replayed.map_or(0, |r| r.length)
     }
 }
 
 // Whether the answer is that of the run.
-fn answers(c: Call, t: Truth, read: LogRead, run: Judged) -> bool {
-    let judged = c.judged;
-    let numbers = judged.numbers;
-    let run_numbers = run.numbers;
-    compare::run_agrees(judged, t, read) && lists::same_from(numbers, run_numbers, 0)
+fn answers(
+    c: Call,
+    t: Truth,
+    read: Result<usize, Refused>,
+    run: Result<Verdict, RunRefusal>,
+) -> bool {
+    let judged = c.judged();
+    compare::run_agrees(judged, t, read) && judged.map(|v| v.numbers) == run.map(|v| v.numbers)
 }
 
 // Whether the length and all bytes are those due on a match, or nothing is written.
@@ -94,34 +95,20 @@ fn writes(c: Call, matched: bool, log: &[u8], t: Truth) -> bool {
     if !matched {
         return unwritten(c);
     }
-    let judged = c.judged;
-    let numbers = judged.numbers;
-    c.length == log.len() && has(c, grouped::bytes(log, t, numbers))
+    let Ok(replayed) = c.replayed else {
+        return false;
+    };
+    replayed.length == log.len() && c.buffer == grouped::bytes(log, t, replayed.verdict.numbers)
 }
 
 fn unwritten(c: Call) -> bool {
-    c.length == 0 && has(c, [0xAA; SPACE])
-}
-
-fn has(c: Call, bytes: [u8; SPACE]) -> bool {
-    let buffer = c.buffer;
-    console::starts_with(&buffer, SPACE, &bytes)
+    c.length() == 0 && c.buffer == [0xAA; SPACE]
 }
 
 // Whether 15 is given at 0 where the log passes, match or none, and nothing is written.
-fn refuses(c: Call, t: Truth, read: LogRead) -> bool {
-    let judged = c.judged;
-    compare::run_agrees(judged, t, too_short(read)) && unwritten(c)
-}
-
-fn too_short(read: LogRead) -> LogRead {
-    if drawn::accepted(read) {
-        return LogRead::LogRefused {
-            number: 15,
-            offset: 0,
-        };
-    }
-    read
+fn refuses(c: Call, t: Truth, read: Result<usize, Refused>) -> bool {
+    let due = read.and(Err(Refusal::NoRoom.at(0)));
+    compare::run_agrees(c.judged(), t, due) && unwritten(c)
 }
 
 // "The outcome is reachable by swaps and holds the slots in sequence", and a run over it says match.
@@ -133,14 +120,13 @@ fn shows(
     c: Call,
     counts: &mut [u64; COUNTS],
 ) -> bool {
-    let buffer = c.buffer;
-    let replay = plain::read(&buffer);
+    let replay = plain::read(&c.buffer);
     let q = asked(t.leading, replay);
     tally::add_if(counts, REPLAYS + 2, !orders::unswapped(q));
     let reached = held(counts, REPLAYS + 6, reaches(queue, seen, q));
     let holds = held(counts, REPLAYS + 7, holds(replay, t.sketch));
     let again = held(counts, REPLAYS + 8, again(pattern, c));
-    reached & holds & again
+    reached && holds && again
 }
 
 // Whether the log has an order with the replay's events one by one.
@@ -166,15 +152,8 @@ fn holds(l: Leading, k: Sketch) -> bool {
 }
 
 fn again(pattern: &[u8], c: Call) -> bool {
-    let length = c.length;
-    let buffer = c.buffer;
-    if SPACE < length {
+    let Some(replay) = c.buffer.get(..c.length()) else {
         return false;
-    }
-    let judged = run::run(pattern, &buffer[..length]);
-    let outcome = judged.outcome;
-    match outcome {
-        Outcome::Match { count: _ } => true,
-        _ => false,
-    }
+    };
+    compare::matched(run::run(pattern, replay))
 }

@@ -1,9 +1,9 @@
 // What was seen: kinds of logs and patterns, matches and disagreements. The file stdin has the words for each count, a line each.
 use crate::{locks, threads};
-use event_log::LogRead;
+use event::refusal::Refused;
 use plain::Leading;
 use swap_search::truth::Truth;
-use swap_search::{patterns, truth, words};
+use swap_search::{patterns, words};
 
 pub const COUNTS: usize = CHILDREN + THREADS;
 
@@ -57,8 +57,8 @@ const CHILDREN: usize = ACTING + THREADS;
 
 // So many more at a place.
 pub(crate) fn add(counts: &mut [u64; COUNTS], i: usize, n: u64) {
-    if i < COUNTS {
-        counts[i] = truth::sum(counts[i], n);
+    if let Some(count) = counts.get_mut(i) {
+        *count = count.saturating_add(n);
     }
 }
 
@@ -69,9 +69,9 @@ pub(crate) fn add_if(counts: &mut [u64; COUNTS], i: usize, so: bool) {
     }
 }
 
-pub(crate) fn log(counts: &mut [u64; COUNTS], read: LogRead, t: Truth) {
+pub(crate) fn log(counts: &mut [u64; COUNTS], read: Result<usize, Refused>, t: Truth) {
     add(counts, LOGS, 1);
-    let accepted = drawn::accepted(read);
+    let accepted = read.is_ok();
     add_if(counts, ACCEPTED, accepted);
     add_if(counts, REFUSED, !accepted);
     if accepted {
@@ -83,12 +83,10 @@ pub(crate) fn log(counts: &mut [u64; COUNTS], read: LogRead, t: Truth) {
 }
 
 fn case(counts: &mut [u64; COUNTS], t: Truth) {
-    let l = t.leading;
-    let k = t.sketch;
-    let repeats = patterns::repeats(k);
-    kinds(counts, l);
-    add_if(counts, FULL, l.count == 7);
-    add(counts, SIZES + k.size % 6, 1);
+    let repeats = patterns::repeats(t.sketch);
+    kinds(counts, t.leading);
+    add_if(counts, FULL, t.leading.count == 7);
+    add(counts, SIZES + t.sketch.size % 6, 1);
     add_if(counts, REPEATS, repeats);
     add_if(counts, REPEATS_MATCHED, repeats && t.present());
 }
@@ -106,7 +104,7 @@ fn result(counts: &mut [u64; COUNTS], t: Truth) {
     add_if(counts, UNMATCHED, !present);
     add_if(counts, SWAPPED, present && !t.unswapped());
     add(counts, ORDERS, t.orders);
-    counts[MOST_ORDERS] = truth::larger(counts[MOST_ORDERS], t.most);
+    counts[MOST_ORDERS] = counts[MOST_ORDERS].max(t.most);
 }
 
 // Logs in which a lock is taken again by its holder, and what is found in them.
@@ -121,16 +119,9 @@ fn nested(counts: &mut [u64; COUNTS], t: Truth) {
 // One more for each thread that acts in the log, and for each that it forks or joins.
 fn named(counts: &mut [u64; COUNTS], l: Leading) {
     for i in 0..THREADS {
-        named_at(counts, l, i);
+        add_if(counts, ACTING + i, threads::acts(l, i as u32));
+        add_if(counts, CHILDREN + i, threads::is_child(l, i as u32));
     }
-}
-
-fn named_at(counts: &mut [u64; COUNTS], l: Leading, i: usize) {
-    if i >= THREADS {
-        return;
-    }
-    add_if(counts, ACTING + i, threads::named(l, i as u32, false));
-    add_if(counts, CHILDREN + i, threads::named(l, i as u32, true));
 }
 
 pub(crate) fn print(counts: &[u64; COUNTS]) {

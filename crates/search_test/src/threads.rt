@@ -1,24 +1,23 @@
 // The threads that a log names: those that act, and the children of its forks and joins.
-use plain::{Leading, MOST};
+use plain::Leading;
 
-// Whether the thread acts in one of the events, or is the child of one.
-pub(crate) fn named(l: Leading, thread: u32, as_child: bool) -> bool {
-    for i in 0..MOST {
-        if i < l.count && names(l, i, thread, as_child) {
-            return true;
-        }
-    }
-    false
+// Whether the thread acts in one of the events.
+pub(crate) fn acts(l: Leading, thread: u32) -> bool {
+    l.events
+        .iter()
+        .take(l.count)
+        .any(|a| plain::thread(*a) == thread)
 }
 
-fn names(l: Leading, i: usize, thread: u32, as_child: bool) -> bool {
-    if MOST <= i {
-        return false;
-    }
-    let a = l.events[i];
-    if !as_child {
-        return plain::thread(a) == thread;
-    }
+// Whether the thread is the child of one.
+pub(crate) fn is_child(l: Leading, thread: u32) -> bool {
+    l.events
+        .iter()
+        .take(l.count)
+        .any(|a| names_child(*a) && plain::object(*a) == thread)
+}
+
+fn names_child(a: u32) -> bool {
     let kind = plain::kind(a);
-    (kind == plain::FORK || kind == plain::JOIN) && plain::object(a) == thread
+    kind == plain::FORK || kind == plain::JOIN
 }
