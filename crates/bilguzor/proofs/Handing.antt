@@ -14,15 +14,11 @@ use Rattle.event.specs.Keys.{slot_number, slot_numbers}
 use Rattle.event.proofs.Tests.{by_test}
 use Rattle.rules.specs.State.{refusal_by}
 use Rattle.rules.proofs.StateLaws.{taken_in_range}
-use Rattle.event_log.specs.Whole.{InLimits, Passing, passed, refused, pattern_answer_is, pattern_of, read_pattern}
+use Rattle.event_log.specs.Whole.{InLimits, Passing, passed, refused, passing_is, pattern_of, read_pattern}
 use Rattle.command.specs.Bytes.{Bytes}
 use Rattle.session.specs.declared.Session.{Session}
 use Rattle.session.specs.declared.Opened.{Opened}
-use Rattle.session.specs.declared.Found.{Found}
-use Rattle.session.specs.declared.Found.TheVariants.{Match, None}
-use Rattle.run.specs.declared.Outcome as run
 use Rattle.session.specs.Answers.{refusal, answer_is, found_is, verdict_is, nothing}
-use Rattle.run.specs.Answers.{outcome_is}
 use Rattle.session.specs.Model.{slots_used, fresh_on, Kept, kept_of, session_on, kept_after, handed, found_at}
 use Rattle.session.specs.Meaning.{Describes, VerdictOf, OpenedOn}
 use Rattle.session.proofs.Described.{fresh_described, used_good, refusal_is, handed_described, verdict_described}
@@ -37,7 +33,8 @@ use Rattle.bilguzor.specs.declared.Answer.{Answer}
 use Rattle.bilguzor.specs.declared.Judgement.{Judgement}
 use Rattle.bilguzor.specs.declared.Opening.{Opening}
 use Rattle.bilguzor.specs.declared.Parts.{Parts}
-use Rattle.bilguzor.specs.Numbers.{judgement_of, as_outcome}
+use Rattle.bilguzor.specs.Numbers.{judgement_of}
+use Rattle.std.specs.Prelude.{Option}
 use Rattle.bilguzor.specs.Parts.{parts_of, kept_in, parts_with}
 use Rattle.bilguzor.specs.Sessions.{InParts, opening_from, opened_parts, opening_of, number_in, parts_after, refusal_of, taken_with, Takes, ruling_in, said_in}
 use Rattle.bilguzor.proofs.Events.{unfit_number}
@@ -145,11 +142,11 @@ in_opening (passed n) p = refl
 in_opening (refused k o) p = refl
 
 -- what an opening answers, once its session is put into parts
-pub opened : (bytes : List ℕ) (o : Opened) → OpenedOn bytes o → (p : Parts) → p ≡ parts_of o.session → (r : Opening) → r ≡ opening_from (pattern_answer_is o.answer) p
+pub opened : (bytes : List ℕ) (o : Opened) → OpenedOn bytes o → (p : Parts) → p ≡ parts_of o.session → (r : Opening) → r ≡ opening_from (passing_is o.answer) p
     → (r ≡ opening_of bytes) × InParts (slots_used (read_pattern bytes)) [] r.session
 opened bytes o h p q r e = (
   e ∙ (λ i. opening_from (h.answer i) ((q ∙ ap parts_of h.session) i)),
-  record { session = o.session; is = ap (λ (x : Opening). x.session) e ∙ in_opening (pattern_answer_is o.answer) p ∙ q; describes = h.described },
+  record { session = o.session; is = ap (λ (x : Opening). x.session) e ∙ in_opening (passing_is o.answer) p ∙ q; describes = h.described },
 )
 
 pub opened_in : (bytes : List ℕ) → Bytes bytes → InParts (slots_used (read_pattern bytes)) [] (opened_parts bytes)
@@ -162,19 +159,14 @@ opened_in bytes b =
 
 -- ---- the verdict
 
--- a verdict stands for itself among what a run gives
-given_found : (f : Found) (events : List ℕ) → outcome_is (as_outcome f) events ≡ record { refused = nothing; refusal = refusal 0 0; ruling = found_is f events }
-given_found (Match n) events = refl
-given_found None events = refl
-
 pub said : (ss : List Slot) (es : List Event) (p : Parts) → InParts ss es p → VerdictOf ss es (ruling_in p.table p.count p.size)
 said ss es p h = rw h.is (verdict_described ss es h.session h.describes)
 
-pub judged : (table : List ℕ) (count size : ℕ) (events : List ℕ) (outcome : run.Outcome) (r : Judgement) → events ≡ numbers_in table size
-    → outcome ≡ as_outcome (found_at count) → r ≡ judgement_of (outcome_is outcome events)
+pub judged : (table : List ℕ) (count size : ℕ) (events : List ℕ) (found : Option ℕ) (r : Judgement) → events ≡ numbers_in table size
+    → found ≡ found_at count → r ≡ judgement_of (record { refused = nothing; refusal = refusal 0 0; ruling = found_is found events })
     → (r ≡ judgement_of (record { refused = nothing; refusal = refusal 0 0; ruling = ruling_in table count size }))
     × ((ss : List Slot) (es : List Event) (p : Parts) → InParts ss es p → p.table ≡ table → p.count ≡ count → p.size ≡ size → VerdictOf ss es (ruling_in table count size))
-judged table count size events outcome r ev ou e = (
-  e ∙ ap judgement_of ((λ i. outcome_is (ou i) (ev i)) ∙ given_found (found_at count) (numbers_in table size)),
+judged table count size events found r ev fo e = (
+  e ∙ (λ i. judgement_of (record { refused = nothing; refusal = refusal 0 0; ruling = found_is (fo i) (ev i) })),
   λ ss es p h t c s. rw (sym t, sym c, sym s) (said ss es p h),
 )

@@ -35,6 +35,7 @@ use Rattle.event_log.proofs.LogRoundTrip.{log_read}
 use Rattle.session.specs.Model.{slots_used}
 use Rattle.session.specs.Meaning.{VerdictOf, RunOnUnder, RunOn, RunOfUnder, RunOf}
 use Rattle.session.specs.NoFit.{FitsNone}
+use Rattle.std.specs.Prelude.{Option, Some}
 use Rattle.verdict_reason.specs.declared.Cause.{Cause}
 use Rattle.verdict_reason.specs.Reasons.{cause_is, cause_of, log_refused, match, no_match, ReasonOf, pattern_refused, over_log}
 use Rattle.verdict_reason.proofs.EveryReason.{says_run, one_cause, reason_suffices}
@@ -223,7 +224,7 @@ verdict_none {log = log} {g = g} p q d (RunOfUnder.over_log b r) = run_none q d 
 
 module _ (pattern log : List ℕ) (r : Reasoned) (h : ReasonNumbers pattern log r) where
   with_reason : {ss : List Slot} {es : List Event} {first : List ℕ} {o : Obstacle} → read_pattern pattern ≡ accepted ss → read_log log ≡ accepted es
-      → Reason ss es first o → h.cause ≡ cause_of (suc (length first)) o → h.events ≡ in_places 0 slot_limit first → EveryReason pattern log r
+      → Reason ss es first o → h.cause ≡ Some (cause_of (suc (length first)) o) → h.events ≡ in_places 0 slot_limit first → EveryReason pattern log r
   with_reason {ss} {es} {first} {o} p q why cause places =
       record {
         slots = ss;
@@ -238,7 +239,7 @@ module _ (pattern log : List ℕ) (r : Reasoned) (h : ReasonNumbers pattern log 
         only = λ s k. only s k;
       }
     where
-      numbers : r ≡ reasoned_of r.judgement (cause_is (cause_of (suc (length first)) o)) (in_places 0 slot_limit first)
+      numbers : r ≡ reasoned_of r.judgement (cause_is (Some (cause_of (suc (length first)) o))) (in_places 0 slot_limit first)
       numbers =
           h.numbers
           ∙ (λ i. reasoned_of (ap (λ (x : Reasoned). x.judgement) (sym h.numbers) i) (cause_is (cause i)) (places i))
@@ -256,7 +257,7 @@ module _ (pattern log : List ℕ) (r : Reasoned) (h : ReasonNumbers pattern log 
 pub every_reason : (pattern log : List ℕ) (r : Reasoned) → ReasonNumbers pattern log r → r.judgement.kind ≡ 0 → EveryReason pattern log r
 every_reason pattern log r h is = go h.reason refl refl (sym (ap (λ (x : Reasoned). x.judgement.kind) h.numbers) ∙ is)
   where
-    go : {g : Given} {c : Cause} {events : List ℕ} → ReasonOf pattern log g c events → h.cause ≡ c → h.events ≡ events
+    go : {g : Given} {c : Option Cause} {events : List ℕ} → ReasonOf pattern log g c events → h.cause ≡ c → h.events ≡ events
         → kind_of g.refused g.ruling.matches ≡ 0 → EveryReason pattern log r
     go (pattern_refused p) e f k = absurd (let f : ⊥ = omega arith in f)
     go {g} (over_log p (log_refused run d)) e f k = absurd (d (low_kind g.refused g.ruling.matches (omega arith)))

@@ -1,6 +1,6 @@
 -- Demand 3 for sessions in parts and for exported runs: what is so for every list of events in numbers, the whole list and not each call.
 -- Beside it, what an event that fits no slot leaves as it was, what every exported reason says, and what every exported replay shows.
-use Rattle.std.specs.Prelude.{ℕ, suc, ◌≡◌, List, [], ◌∷◌, ◌++◌, reverse, map, ℤ, pos, length, replicate, take}
+use Rattle.std.specs.Prelude.{ℕ, suc, ◌≡◌, List, [], ◌∷◌, ◌++◌, reverse, map, ℤ, pos, length, replicate, take, Some}
 use Rattle.event.specs.declared.Operation.{Operation}
 use Rattle.event.specs.declared.Operation.TheVariants.{Read, Write, Acquire, Release, Fork, Join, Mark}
 use Rattle.event.specs.declared.Event.{Event}
@@ -98,7 +98,7 @@ pub record EveryReason (pattern log : List ℕ) (r : Reasoned) : Type 0 where
   pub first : List ℕ
   pub obstacle : Obstacle
   pub why : Reason slots events first obstacle
-  pub numbers : r ≡ reasoned_of r.judgement (cause_is (cause_of (suc (length first)) obstacle)) (in_places 0 slot_limit first)
+  pub numbers : r ≡ reasoned_of r.judgement (cause_is (Some (cause_of (suc (length first)) obstacle))) (in_places 0 slot_limit first)
   pub without : ¬ HasMatch slots events
   pub only : (s : Reasoned) → ReasonNumbers pattern log s → s ≡ r
 

@@ -1,11 +1,7 @@
 -- The numbers that a run, a reason, a replay and an order query answer.
-use Rattle.std.specs.Prelude.{ℕ, ◌≡◌, Bool, cond, List}
+use Rattle.std.specs.Prelude.{ℕ, ◌≡◌, Bool, cond, List, Option}
 use Rattle.session.specs.Answers.{Refused, nothing, Given}
 use Rattle.session.specs.Meaning.{RunOf}
-use Rattle.session.specs.declared.Found.{Found}
-use Rattle.session.specs.declared.Found.TheVariants as found
-use Rattle.run.specs.declared.Outcome.{Outcome}
-use Rattle.run.specs.declared.Outcome.TheVariants as outcome
 use Rattle.verdict_reason.specs.declared.Cause.{Cause}
 use Rattle.verdict_reason.specs.Reasons.{Stated, cause_is, ReasonOf}
 use Rattle.replay_log.specs.Replay.{ReplayOf}
@@ -38,11 +34,6 @@ judgement_of g =
       offset = g.refusal.offset;
     }
 
--- a session's verdict, in the cases that a run gives
-abbrev pub as_outcome : Found → Outcome
-as_outcome (found.Match n) = outcome.Match n
-as_outcome found.None = outcome.None
-
 -- "A run takes a pattern and a log, both lent.": what it gives, in numbers
 pub record RunNumbers (pattern log : List ℕ) (r : Judgement) : Type 0 where
   pub given : Given
@@ -58,7 +49,7 @@ reasoned_of j t events = record { judgement = j; slot = t.slot; last = t.last; e
 -- gives, in numbers
 pub record ReasonNumbers (pattern log : List ℕ) (r : Reasoned) : Type 0 where
   pub given : Given
-  pub cause : Cause
+  pub cause : Option Cause
   pub events : List ℕ
   pub reason : ReasonOf pattern log given cause events
   pub numbers : r ≡ reasoned_of (judgement_of given) (cause_is cause) events

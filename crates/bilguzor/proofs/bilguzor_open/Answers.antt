@@ -1,5 +1,4 @@
 use Rattle.bilguzor.proofs.Handing.{opened}
-use borrow.Author.Rules.{rules}
 use Rattle.bilguzor.proofs.bilguzor_open.Goals as goal
 
 pub parts_of-session-requires : goal.parts_of-session-requires

@@ -1,4 +1,3 @@
-use borrow.Author.Rules.{rules}
 use Rattle.event_numbers.specs.SlotNumbers.{acting_in, fitting_in}
 use Rattle.event_numbers.proofs.SlotsIn.{none_told}
 use Rattle.bilguzor.proofs.hand_to_parts.Goals as goal
