@@ -5,7 +5,7 @@
 use event::{Event, Operation};
 use row_batch::{BATCH, Batch};
 use session::Session;
-use session_row::{PLACES, RowAnswer, RowHanded};
+use session_row::{PLACES, RowHanded, RowRefusal};
 
 // More events than this no session takes.
 const MANY: usize = 65535;
@@ -144,10 +144,8 @@ fn ahead(rows: [Session; PLACES], place: usize, e: Event, times: usize) -> [Sess
 
 fn taken(s: Session, e: Event, times: usize) -> Session {
     let mut held = s;
-    for n in 0..times {
-        let h = held.take(e);
-        let next = h.session;
-        held = next;
+    for _ in 0..times {
+        held = held.take(e).session;
     }
     held
 }
@@ -175,40 +173,29 @@ fn some_events(title: &[u8], rows: [Session; PLACES], n: usize, b: Batch) {
 }
 
 fn show(rows: [Session; PLACES], n: usize, b: Batch, handed: RowHanded) {
-    let answer = handed.answer;
-    let after = handed.sessions;
-    show_answer(answer);
-    if all_as_alone(rows, n, b, after) {
+    show_answer(handed.answer);
+    if all_as_alone(rows, n, b, handed.sessions) {
         console::text(b"; each as alone\n");
         return;
     }
     console::text(b"; NOT AS ALONE\n");
 }
 
-fn show_answer(r: RowAnswer) {
-    match r {
-        RowAnswer::Taken => console::text(b"taken"),
-        RowAnswer::Refused {
-            count,
-            place,
-            number,
-        } => {
-            console::numbered(b"refused by ", count as u64);
-            console::numbered(b", place ", place as u64);
-            console::numbered(b", number ", number as u64);
+fn show_answer(answer: Result<(), RowRefusal>) {
+    match answer {
+        Ok(()) => console::text(b"taken"),
+        Err(RowRefusal::Refused(refused)) => {
+            console::numbered(b"refused by ", refused.count as u64);
+            console::numbered(b", place ", refused.place as u64);
+            console::numbered(b", number ", refused.reason.number() as u64);
         }
-        RowAnswer::TooLong => console::text(b"too long"),
+        Err(RowRefusal::TooLong) => console::text(b"too long"),
     }
 }
 
 // Whether each of the first n is what the events make of it alone, in a row that is not too long, and each other one is as it was.
 fn all_as_alone(rows: [Session; PLACES], n: usize, b: Batch, after: [Session; PLACES]) -> bool {
-    for k in 0..PLACES {
-        if !same(alone(rows[k], k, n, b), after[k]) {
-            return false;
-        }
-    }
-    true
+    (0..PLACES).all(|k| same(alone(rows[k], k, n, b), after[k]))
 }
 
 fn alone(s: Session, k: usize, n: usize, b: Batch) -> Session {
@@ -222,58 +209,18 @@ fn alone(s: Session, k: usize, n: usize, b: Batch) -> Session {
 }
 
 fn each_taken(s: Session, b: Batch) -> Session {
-    let events = b.events;
     let mut held = s;
-    for k in 0..BATCH {
-        if b.size <= k {
-            return held;
-        }
-        let h = held.take(events[k]);
-        let next = h.session;
-        held = next;
+    for e in b.as_slice() {
+        held = held.take(*e).session;
     }
     held
 }
 
 // Whether two sessions on the same pattern have kept the same.
 fn same(a: Session, b: Session) -> bool {
-    if a.taken != b.taken {
-        return false;
-    }
-    if a.count != b.count {
-        return false;
-    }
-    let state = a.state;
-    let clocks = a.clocks;
-    let table = a.table;
-    let other_state = b.state;
-    let other_clocks = b.clocks;
-    let other_table = b.table;
-    same_state(state, other_state)
-        & same_clocks(clocks, other_clocks)
-        & same_table(table, other_table)
-}
-
-fn same_state(a: [u8; rules::STATE], b: [u8; rules::STATE]) -> bool {
-    check::same(&a, &b)
-}
-
-fn same_clocks(a: [u16; clock::CLOCKS], b: [u16; clock::CLOCKS]) -> bool {
-    alike(&a, &b)
-}
-
-fn same_table(a: [u16; table::TABLE], b: [u16; table::TABLE]) -> bool {
-    alike(&a, &b)
-}
-
-fn alike(a: &[u16], b: &[u16]) -> bool {
-    if a.len() != b.len() {
-        return false;
-    }
-    for i in 0..a.len() {
-        if a[i] != b[i] {
-            return false;
-        }
-    }
-    true
+    a.taken == b.taken
+        && a.count == b.count
+        && a.state == b.state
+        && a.clocks == b.clocks
+        && a.table == b.table
 }
