@@ -8,11 +8,10 @@ use native.Mathlib.Omega.{arith}
 use mathlib.Core.Path.{◌≡◌, refl, sym, ap, ap₂, subst, ◌∙◌}
 use mathlib.Core.Bool.{true, false}
 use mathlib.Core.List.{List, [], ◌∷◌, ◌++◌}
-use lib.Dec.{eqb, ltb}
+use lib.Dec.{ltb}
 use lib.ListN.{length, get_or, set, take, drop, replicate, length-set, length-replicate, get_or-replicate, drop_of_length-le, get_or-eq_default}
 use lib.Seq.{take_all, length-take-le, drop-cons, get_or-take, take-suc-set, get_or-set_other}
-use borrow.Author.Tests.{eqb-true, ne_eqb, lt-ltb, le-ltb, le-leb}
-use Rattle.event.proofs.Tests.{by_test}
+use borrow.Author.Tests.{ne_eqb, lt-ltb, le-ltb, le-leb}
 use Rattle.std.specs.Prelude.{Some, None}
 use Rattle.event.specs.declared.Event.{Event}
 use Rattle.event.specs.declared.Slot.{Slot}
@@ -251,25 +250,24 @@ module _ {slots : List Slot} {keys : List ℕ} {size : ℕ} (so : SlotsOf slots 
     pub held : ClocksOf es clocks
     pub lasts : LastsOf es slots size last
 
-  -- it comes from the clocks that run, or from a pass over all events
-  module _ {bytes : List ℕ} {es : List Event} {s : Search} {n : ℕ} (ld : Leads bytes es n) (h : NextIs es slots size s n) (u : s.found + 1 < size)
-      {clocks last : List ℕ} {stamp : Stamp} (nw : Newest es slots size s clocks last n stamp) {own : Stamp} {clocks-after last-after : List ℕ} where
-    pub own_known : (eqb s.found 0 ≡ false → (own ≡ stamp) × ((clocks-after ≡ clocks) × (last-after ≡ last)))
-        → (eqb s.found 0 ≡ true → (es : List Event) (m : ℕ) → Leads bytes es m → Stamped es keys n clocks last own clocks-after last-after)
+  module _ {bytes : List ℕ} {es : List Event} {s : Search} {n : ℕ} (ld : Leads bytes es n) (h : NextIs es slots size s n)
+      {clocks last : List ℕ} {stamp : Stamp} (nw : Newest es slots size s clocks last n stamp) where
+    -- it comes from a pass over all events, where the first slot is filled,
+    pub own_passed : {own : Stamp} {clocks-after last-after : List ℕ} → s.found ≡ 0 → Stamped es keys n clocks last own clocks-after last-after
         → Own es n own clocks-after last-after
-    own_known later first =
-        by_test (eqb s.found 0)
-        (λ q.
-        let k = nw.following.still (eqb-true _ _ q) in
-        let t = first q es n ld h.among.0 h.among.1 k.0 in
+    own_passed q pass =
+        let k = nw.following.still q in
+        let t = pass h.among.0 h.among.1 k.0 in
         let c = ld.count in
         let all : take n es ≡ es = take_all n es (omega arith) in
-        record { stamp_is = t.stamp_is; held = rw all at t.held; lasts = rw all at (t.lasts slots size so k.1) })
-        (λ q.
-        let r : s.running ≡ true = h.shaped.running ∙ rw (q, lt-ltb (s.found + 1) size u) refl in
+        record { stamp_is = t.stamp_is; held = rw all at t.held; lasts = rw all at (t.lasts slots size so k.1) }
+
+    -- and else from the clocks that run
+    pub own_given : s.found + 1 < size → (s.found ≡ 0 → ⊥) → Own es n stamp clocks last
+    own_given u d =
+        let r : s.running ≡ true = h.shaped.running ∙ rw (ne_eqb _ _ d, lt-ltb (s.found + 1) size u) refl in
         let k = nw.following.held r in
-        let z = later q in
-        rw (z.0, z.1.0, z.1.1) (record { stamp_is = nw.stamped r; held = k.0; lasts = k.1 }))
+        record { stamp_is = nw.stamped r; held = k.0; lasts = k.1 }
 
 -- once a slot is found the clocks are of all events, or stand still for good
 pub follows_on : {es : List Event} {slots : List Slot} {size : ℕ} {s : Search} {clocks last : List ℕ} → 0 < s.found

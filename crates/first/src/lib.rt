@@ -12,6 +12,7 @@ use clock::Stamp;
 use event::Slot;
 
 // The key of no slot: it names a thread that no event has.
+// Kept: a key and not an Option of one, so that one comparison tells that a slot is looked for and that the event has its key.
 const NO_KEY: u16 = 255;
 
 // How many slots have found their event, these events' numbers, and their stamps joined, so far as slots are left. The key of the slot
@@ -60,7 +61,12 @@ pub fn choose(
     if full.found == size {
         return full;
     }
-    let own = own_stamp(s.found == 0, log, n, keys, clocks, last, stamp);
+    // The clocks gave the stamp of the newest event, or, where it fills the first slot, they take all events up to it.
+    let own = if s.found == 0 {
+        passes::pass(log, n, keys, clocks, last)
+    } else {
+        stamp
+    };
     let next = look_on(keys, size, full, own);
     settle(log, slots, keys, size, next, last, n)
 }
@@ -128,23 +134,4 @@ fn look_on(keys: [u16; event::SLOTS], size: usize, s: Search, stamp: Stamp) -> S
         stamps: clock::join(s.stamps, stamp),
         ..s
     }
-}
-
-// The stamp of the newest event: the clocks gave it, or, where it fills the first slot, they take all events up to it.
-fn own_stamp(
-    first: bool,
-    log: &[u8],
-    n: usize,
-    keys: [u16; event::SLOTS],
-    clocks: &mut [u16; clock::CLOCKS],
-    last: &mut [u16; event::SLOTS],
-    stamp: Stamp,
-) -> Stamp
-    ensures later { first ≡ false → (result ≡ stamp) × ((clocks.new ≡ clocks.old) × (last.new ≡ last.old)) }
-    ensures first { first ≡ true → (es : List Event) (m : ℕ) → Leads log.now es m → Stamped es keys n clocks.old last.old result clocks.new last.new }
-{
-    if !first {
-        return stamp;
-    }
-    passes::pass(log, n, keys, clocks, last)
 }
