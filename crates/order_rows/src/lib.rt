@@ -102,6 +102,7 @@ pub fn next(events: [Event; PLACES], order: &[u8]) -> Option<[u8; PLACES]>
 }
 
 // The first order of so many events.
+#[tactic(auto, using(crate::proofs::Filled::one_more))]
 pub fn first(n: usize) -> [u8; PLACES]
     requires { n ≤ order_places }
     ensures { result ≡ order_row (run 1 n) }

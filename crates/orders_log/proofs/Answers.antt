@@ -10,9 +10,10 @@ use lib.Seq.{take-suc, length-take-le}
 use Rattle.std.specs.Prelude.{Option as Maybe, Some, Result, Ok, Err}
 use Rattle.event.specs.declared.Event.{Event}
 use Rattle.event.specs.declared.refusal.Refused.{Refused}
-use Rattle.event.specs.declared.refusal.Refusal.TheVariants.{NoOrder}
+use Rattle.event.specs.declared.refusal.Refusal.TheVariants.{NoOrder, TooManyToOrder}
 use Rattle.event.specs.Slots.{no_event}
 use Rattle.event.specs.Places.{in_places}
+use Rattle.event.specs.Refusals.{refusal_number}
 use Rattle.event.proofs.Places.{next_place, places_first}
 use Rattle.trace.specs.Before.{Numbered}
 use Rattle.trace.specs.Tuples.{event_at, dep_at}
@@ -57,8 +58,9 @@ module _ (bytes : List ℕ) {read : Result ℕ Refused} (e : passing_is read ≡
   log_passed : {n : ℕ} → read ≡ Ok n → (es : List Event) × (read_log bytes ≡ accepted es) × (n ≡ length es)
   log_passed q = rw q at (log_case (read_log bytes) (passing_is read) e)
 
-  pub log_long : {n : ℕ} → read ≡ Ok n → order_places < n → Unlisted bytes (orders_refused 25 0)
-  log_long q l = let p = log_passed q in long_log p.1 (let m = p.2 in omega arith)
+  pub log_long : {n : ℕ} → read ≡ Ok n → order_places < n → (r : Refused) → r ≡ record { reason = TooManyToOrder; offset = 0 }
+      → Unlisted bytes (orders_refused (refusal_number r.reason) r.offset)
+  log_long q l r z = let p = log_passed q in rw z (long_log p.1 (let m = p.2 in omega arith))
 
 -- ---- what the calls give
 

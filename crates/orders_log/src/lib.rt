@@ -25,6 +25,7 @@ pub enum OrdersRefusal {
 pub type Given = Result<Option<[u8; PLACES]>, OrdersRefusal>;
 
 // The first order of the log.
+#[tactic(auto, using(crate::proofs::Answers::first_refused, crate::proofs::Answers::first_given))]
 pub fn first(log: &[u8]) -> Given
     ensures { GivesSo (FirstGives log.now) result }
 {
@@ -33,6 +34,7 @@ pub fn first(log: &[u8]) -> Given
 }
 
 // The order of the log after a given one: a list of eight event numbers, 0 beyond the log's events.
+#[tactic(auto, using(crate::proofs::Answers::next_refused, crate::proofs::Answers::next_given))]
 pub fn next(log: &[u8], row: &[u8]) -> Given
     ensures { GivesSo (NextGives log.now row.now) result }
 {
@@ -45,6 +47,7 @@ pub fn next(log: &[u8], row: &[u8]) -> Given
 }
 
 // How many events the log holds, at most eight.
+#[tactic(auto, using(crate::proofs::Answers::log_broken))]
 fn events_in(log: &[u8]) -> Result<usize, OrdersRefusal>
     ensures { MatchResult result (ShortLog log.now) (λ r. Unlisted log.now (refusal_is r)) }
 {
