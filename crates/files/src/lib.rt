@@ -11,14 +11,12 @@ ghost use Rattle.load_text.specs.LoadText.{LogWithin};
 ghost use Rattle.files.specs.Listed.{SomeText, SomeOrder, InPage};
 ghost use Rattle.files.specs.Paths.{Appended, SpareName};
 
-use arguments::Pair;
-use load_text::Made;
-use run::Outcome;
+use event::refusal::Refused;
+use load_text::LoadError;
 use std::fs::{File, OpenFile};
 use std::io::{Eprint, Error, ErrorKind, Print, Read, Write};
 use std::rt::Files;
 use std::{fs, process, str};
-use writer::Written;
 
 // How many bytes of a folder's two files were read.
 #[derive(Clone, Copy)]
@@ -39,53 +37,51 @@ impl ProcessId for HostRuntime {
 }
 
 // Writes the listing of a folder's pattern.bin and log.bin at the start of a lent buffer.
-pub fn list(rt: &impl Files, folder: &[u8], buffer: &mut [u8]) -> Written
+pub fn list(rt: &impl Files, folder: &[u8], buffer: &mut [u8]) -> Result<usize, Refused>
     ensures { SomeText Listing buffer.old buffer.new result }
 {
     let mut pattern = [0u8; page::SPACE];
     let mut log = [0u8; page::SPACE];
     let sizes = read_both(rt, folder, &mut pattern, &mut log);
-    let p = sizes.pattern;
-    let l = sizes.log;
-    listing_text::write(&pattern[..p], &log[..l], buffer)
+    listing_text::write(&pattern[..sizes.pattern], &log[..sizes.log], buffer)
 }
 
 // Writes what the program `reason` prints for a folder's pattern.bin and log.bin at the start of a lent buffer.
-pub fn reason(rt: &impl Files, folder: &[u8], buffer: &mut [u8]) -> Written
+// Kept: a second function beside `list`, since the contract of a closure that writes into the buffer would be longer than the lines that the two share.
+pub fn reason(rt: &impl Files, folder: &[u8], buffer: &mut [u8]) -> Result<usize, Refused>
     ensures { SomeText ReasonText buffer.old buffer.new result }
 {
     let mut pattern = [0u8; page::SPACE];
     let mut log = [0u8; page::SPACE];
     let sizes = read_both(rt, folder, &mut pattern, &mut log);
-    let p = sizes.pattern;
-    let l = sizes.log;
-    reason_text::write(&pattern[..p], &log[..l], buffer)
+    reason_text::write(&pattern[..sizes.pattern], &log[..sizes.log], buffer)
 }
 
 // Writes what the program `order` prints for a folder's log.bin and its arguments at the start of a lent buffer. Without two numbers no file is read.
-pub fn order(rt: &impl Files, folder: &[u8], pair: Pair, buffer: &mut [u8]) -> Written
+pub fn order(
+    rt: &impl Files,
+    folder: &[u8],
+    pair: Option<(u64, u64)>,
+    buffer: &mut [u8],
+) -> Result<usize, Refused>
     ensures { SomeOrder pair buffer.old buffer.new result }
 {
-    match pair {
-        Pair::Numbers {
-            first: _,
-            second: _,
-        } => {
-            let mut log = [0u8; page::SPACE];
-            let l = read(rt, folder, b"/log.bin", &mut log);
-            order_text::write(&log[..l], pair, buffer)
-        }
-        Pair::NoNumbers => order_text::write(b"", pair, buffer),
+    if pair.is_none() {
+        return order_text::write(b"", pair, buffer);
     }
+    let mut log = [0u8; page::SPACE];
+    let l = read(rt, folder, b"/log.bin", &mut log);
+    order_text::write(&log[..l], pair, buffer)
 }
 
 // Reads a folder's pattern.bin and log.bin, each into its own space.
 pub fn read_both(rt: &impl Files, folder: &[u8], pattern: &mut [u8], log: &mut [u8]) -> Sizes
     ensures { IsPrefixLen result.pattern pattern.new × IsPrefixLen result.log log.new }
 {
-    let p = read(rt, folder, b"/pattern.bin", pattern);
-    let l = read(rt, folder, b"/log.bin", log);
-    Sizes { pattern: p, log: l }
+    Sizes {
+        pattern: read(rt, folder, b"/pattern.bin", pattern),
+        log: read(rt, folder, b"/log.bin", log),
+    }
 }
 
 // Reads a folder's file to its end, or until the space is full, and answers how many bytes it put at the start of the space.
@@ -102,10 +98,8 @@ pub fn open<R: Files>(rt: &R, folder: &[u8], name: &[u8]) -> Option<R::File> {
     let mut path = io::buffer();
     let start = append(&mut path, 0, folder);
     let end = append(&mut path, start, name);
-    match text(&path[..end]) {
-        Ok(path) => fs::open(rt, path).ok(),
-        Err(_) => None,
-    }
+    let path = text(&path[..end]).ok()?;
+    fs::open(rt, path).ok()
 }
 
 // Reads a file to its end, or until the space is full, and closes it; one that was not opened has no bytes.
@@ -138,30 +132,29 @@ pub fn save_replay<R: Files + ProcessId>(
     pattern: &[u8],
     log: &[u8],
 ) -> std::io::Result<()> {
-    if page::LONGEST < pattern.len() {
-        return Ok(());
-    }
-    if page::LONGEST < log.len() {
+    if page::LONGEST < pattern.len() || page::LONGEST < log.len() {
         return Ok(());
     }
     let mut buffer = [0u8; page::SPACE];
-    let replayed = replay_log::write(pattern, log, &mut buffer);
-    let judged = replayed.judged;
-    let outcome = judged.outcome;
-    let size = replayed.length;
-    let Outcome::Match { count: _ } = outcome else {
-        return Ok(());
-    };
-    save(rt, b"replay.bin", &buffer[..size])
+    match replay_log::write(pattern, log, &mut buffer) {
+        Ok(replayed) if replayed.verdict.found.is_some() => {
+            save(rt, b"replay.bin", &buffer[..replayed.length])
+        }
+        _ => Ok(()),
+    }
 }
 
 // Writes load.bin, where a load was made at the start of the space. Where none was made no file is touched; where it fails, load.bin is what it was.
-pub fn save_load<R: Files + ProcessId>(rt: &R, made: Made, space: &[u8]) -> std::io::Result<()>
+pub fn save_load<R: Files + ProcessId>(
+    rt: &R,
+    made: Result<usize, LoadError>,
+    space: &[u8],
+) -> std::io::Result<()>
     requires { LogWithin made space.now }
 {
     match made {
-        Made::Log { size } => save(rt, b"load.bin", &space[..size]),
-        _ => Ok(()),
+        Ok(size) => save(rt, b"load.bin", &space[..size]),
+        Err(_) => Ok(()),
     }
 }
 
@@ -169,7 +162,7 @@ pub fn save_load<R: Files + ProcessId>(rt: &R, made: Made, space: &[u8]) -> std:
 // The bytes go into a spare file beside it, which takes the name once it has all of them, and else is removed.
 pub fn save<R: Files + ProcessId>(rt: &R, name: &[u8], bytes: &[u8]) -> std::io::Result<()> {
     let mut path = io::buffer();
-    let size = spare_name(name, process_number(rt.process_id()), &mut path);
+    let size = spare_name(name, u64::from(rt.process_id()), &mut path);
     let spare = text(&path[..size])?;
     let name = text(name)?;
     let made = File::create_new(rt, spare);
@@ -186,10 +179,7 @@ fn save_made<R: Files>(
 ) -> std::io::Result<()>
     ensures { IsErr made → IsErr result }
 {
-    let file = match made {
-        Ok(file) => file,
-        Err(error) => return Err(error),
-    };
+    let file = made?;
     let saved = fill(file, bytes).and_then(|()| fs::rename(rt, spare, name));
     if saved.is_err() {
         let _ = fs::remove_file(rt, spare);
@@ -205,10 +195,7 @@ fn fill<F: Write + OpenFile + Drop>(mut file: F, bytes: &[u8]) -> std::io::Resul
 
 // The text that the bytes of a path are.
 fn text(path: &[u8]) -> std::io::Result<&str> {
-    match str::from_utf8(path) {
-        Ok(text) => Ok(text),
-        Err(_) => Err(Error::from(ErrorKind::InvalidFilename)),
-    }
+    str::from_utf8(path).map_err(|_| Error::from(ErrorKind::InvalidFilename))
 }
 
 // Puts the name of a spare file at the start of a path, and answers its length: the file's own name, a dot and the process's number,
@@ -223,40 +210,28 @@ fn spare_name(name: &[u8], process: u64, path: &mut [u8]) -> usize
     append(path, number, &figures[..n])
 }
 
-// The number of a process; none is below 0.
-fn process_number(pid: u32) -> u64
-    ensures { result ≡ pid }
-{
-    u64::from(pid)
-}
-
 // Puts bytes at a place of a path and answers the place after them. Where they don't fit it answers the path's length: the system refuses a
 // path of 4,096 bytes, where one that is cut short would name another file.
 fn append(path: &mut [u8], from: usize, bytes: &[u8]) -> usize
     requires { from ≤ length path.old }
     ensures { Appended path.old from bytes.now path.new result }
 {
-    let written = writer::put(path, from, bytes, bytes.len());
-    match written {
-        Written::Next { at } => at,
-        Written::Refused {
-            number: _,
-            offset: _,
-        } => path.len(),
-    }
+    writer::put(path, from, bytes).unwrap_or(path.len())
 }
 
 // Prints what was written at the start of a page, under the name of the program.
-pub fn print_written<R: Print + Eprint>(rt: &R, program: &[u8], page: &[u8], written: Written)
+pub fn print_written<R: Print + Eprint>(
+    rt: &R,
+    program: &[u8],
+    page: &[u8],
+    written: Result<usize, Refused>,
+)
     requires { InPage written page.now }
 {
     match written {
-        Written::Next { at } => print(rt, program, &page[..at]),
+        Ok(at) => print(rt, program, &page[..at]),
         // A page holds every listing.
-        Written::Refused {
-            number: _,
-            offset: _,
-        } => fail(rt, program, Error::from(ErrorKind::FileTooLarge)),
+        Err(_) => fail(rt, program, Error::from(ErrorKind::FileTooLarge)),
     }
 }
 

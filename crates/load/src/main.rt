@@ -1,7 +1,7 @@
 // Writes load.bin, the load of a seed and a count, in the folder where it is run, and prints its length. Seed and count are its two arguments.
 #![tactic(auto)]
 
-use load_text::Made;
+use load_text::LoadError;
 use std::io::{Eprint, Print};
 
 // What is printed says that the file is there, so a file that can't be written leaves nothing to print.
@@ -15,7 +15,7 @@ fn main(rt: HostRuntime) {
     }
 }
 
-fn print<R: Print + Eprint>(rt: &R, made: Made) {
+fn print<R: Print + Eprint>(rt: &R, made: Result<usize, LoadError>) {
     let mut page = [0u8; page::ROOM];
     let written = load_text::write(made, &mut page);
     files::print_written(rt, b"load", &page, written);

@@ -2,11 +2,9 @@
 // buffer as it was; and loads saved as the program `load` saves them.
 #![tactic(auto)]
 
-use arguments::Pair;
-use event_log::LogRead;
+use event::refusal::Refused;
 use files::ProcessId;
 use std::rt::Files;
-use writer::Written;
 
 // A byte more than any load has, so that what stands behind one is seen.
 const SPACE: usize = load_log::ENOUGH + 1;
@@ -14,19 +12,51 @@ const SPACE: usize = load_log::ENOUGH + 1;
 // What the space holds before.
 const BEFORE: u8 = 255;
 
+// The stored logs, each with its seed and count.
+const STORED: [(&[u8], u32, usize); 10] = [
+    (b"/0_0.bin", 0, 0),
+    (b"/0_1.bin", 0, 1),
+    (b"/0_1000.bin", 0, 1000),
+    (b"/0_65535.bin", 0, 65535),
+    (b"/1_1.bin", 1, 1),
+    (b"/1_1000.bin", 1, 1000),
+    (b"/1013904223_64.bin", 1013904223, 64),
+    (b"/2147483648_300.bin", 2147483648, 300),
+    (b"/4294967295_0.bin", 4294967295, 0),
+    (b"/4294967295_1000.bin", 4294967295, 1000),
+];
+
+// Seed, count, and how long the buffer is. 22 goes before 15. A buffer one byte short, and one as long as the log.
+const LIMITS: [(u32, usize, usize); 10] = [
+    (0, 0, 0),
+    (0, 0, 1),
+    (0, 1, 4),
+    (0, 1, 5),
+    (0, 65535, 0),
+    (0, 65535, 294924),
+    (0, 65535, 294925),
+    (0, 65536, 0),
+    (0, 65536, SPACE),
+    (4294967295, 18446744073709551615, SPACE),
+];
+
+// What `load` is asked for, one after another, and the stored log that load.bin is then.
+const SAVED: [(u64, u64, &[u8]); 5] = [
+    (0, 1000, b"/0_1000.bin"),
+    (4294967295, 65536, b"/0_1000.bin"),
+    (4294967296, 1, b"/0_1000.bin"),
+    (4294967295, 1000, b"/4294967295_1000.bin"),
+    (1, 1000, b"/0_1000.bin"),
+];
+
 fn main(rt: HostRuntime) {
-    stored(&rt, b"/0_0.bin", 0, 0);
-    stored(&rt, b"/0_1.bin", 0, 1);
-    stored(&rt, b"/0_1000.bin", 0, 1000);
-    stored(&rt, b"/0_65535.bin", 0, 65535);
-    stored(&rt, b"/1_1.bin", 1, 1);
-    stored(&rt, b"/1_1000.bin", 1, 1000);
-    stored(&rt, b"/1013904223_64.bin", 1013904223, 64);
-    stored(&rt, b"/2147483648_300.bin", 2147483648, 300);
-    stored(&rt, b"/4294967295_0.bin", 4294967295, 0);
-    stored(&rt, b"/4294967295_1000.bin", 4294967295, 1000);
+    for (name, seed, count) in STORED {
+        stored(&rt, name, seed, count);
+    }
     others(&rt);
-    limits();
+    for (seed, count, room) in LIMITS {
+        tried(seed, count, room);
+    }
     saved(&rt);
 }
 
@@ -40,20 +70,6 @@ fn others(rt: &impl Files) {
     make(0, 1, &mut space);
     console::text(b" from its closing 00 on");
     untouched(&space, 4);
-}
-
-// 22 goes before 15. A buffer one byte short, and one as long as the log.
-fn limits() {
-    tried(0, 0, 0);
-    tried(0, 0, 1);
-    tried(0, 1, 4);
-    tried(0, 1, 5);
-    tried(0, 65535, 0);
-    tried(0, 65535, 294924);
-    tried(0, 65535, 294925);
-    tried(0, 65536, 0);
-    tried(0, 65536, SPACE);
-    tried(4294967295, 18446744073709551615, SPACE);
 }
 
 fn named(seed: u32, count: usize) {
@@ -72,21 +88,20 @@ fn stored(rt: &impl Files, name: &[u8], seed: u32, count: usize) {
 
 fn make(seed: u32, count: usize, space: &mut [u8]) -> usize {
     named(seed, count);
-    let written = load_log::write(seed, count, space);
-    said(written)
+    said(load_log::write(seed, count, space))
 }
 
 // Says what was answered: the length, or 0 after a refusal.
-fn said(written: Written) -> usize {
+fn said(written: Result<usize, Refused>) -> usize {
     match written {
-        Written::Next { at } => {
-            console::numbered(b": ", at as u64);
+        Ok(size) => {
+            console::numbered(b": ", size as u64);
             console::text(b" bytes");
-            at
+            size
         }
-        Written::Refused { number, offset } => {
+        Err(refused) => {
             console::text(b": ");
-            console::refusal(number, offset);
+            console::refusal(refused);
             0
         }
     }
@@ -94,30 +109,25 @@ fn said(written: Written) -> usize {
 
 // Says how many events are read of the space's first bytes.
 fn read(space: &[u8], size: usize) {
-    if space.len() < size {
+    let Some(log) = space.get(..size) else {
         return;
-    }
-    match event_log::read_log(&space[..size]) {
-        LogRead::Accepted { events } => {
+    };
+    match event_log::read_log(log) {
+        Ok(events) => {
             console::numbered(b", ", events as u64);
             console::text(b" events accepted");
         }
-        LogRead::LogRefused { number, offset } => {
+        Err(refused) => {
             console::text(b", as a log ");
-            console::refusal(number, offset);
+            console::refusal(refused);
         }
     }
 }
 
 // Ends the line by what is so of the space from a place on.
 fn untouched(space: &[u8], from: usize) {
-    for i in from..space.len() {
-        if space[i] != BEFORE {
-            console::text(b", WRITTEN BEHIND\n");
-            return;
-        }
-    }
-    console::text(b", nothing behind\n");
+    let so = space.iter().skip(from).all(|&b| b == BEFORE);
+    tell(so, b", nothing behind\n", b", WRITTEN BEHIND\n");
 }
 
 // Makes a load in a buffer of so many bytes: what is answered, and whether every byte behind the log, or every byte after a refusal, is as it was.
@@ -125,19 +135,21 @@ fn tried(seed: u32, count: usize, room: usize) {
     let mut space = [BEFORE; SPACE];
     named(seed, count);
     console::numbered(b" in ", room as u64);
-    let written = lent(seed, count, &mut space, room);
-    let at = said(written);
+    let at = said(lent(seed, count, &mut space, room));
     untouched(&space, at);
+}
+
+fn lent(seed: u32, count: usize, space: &mut [u8], room: usize) -> Result<usize, Refused> {
+    let room = room.min(space.len());
+    load_log::write(seed, count, &mut space[..room])
 }
 
 // A load that was made is saved over an older one and read again; where none was made the file stays.
 fn saved<R: Files + ProcessId>(rt: &R) {
     let _ = files::save(rt, b"load.bin", b"an older text");
-    save(rt, 0, 1000, b"/0_1000.bin");
-    save(rt, 4294967295, 65536, b"/0_1000.bin");
-    save(rt, 4294967296, 1, b"/0_1000.bin");
-    save(rt, 4294967295, 1000, b"/4294967295_1000.bin");
-    save(rt, 1, 1000, b"/0_1000.bin");
+    for (first, second, name) in SAVED {
+        save(rt, first, second, name);
+    }
 }
 
 // Saves what these arguments ask for: whether that went well, and whether load.bin is then this stored log.
@@ -145,15 +157,15 @@ fn save<R: Files + ProcessId>(rt: &R, first: u64, second: u64, name: &[u8]) {
     console::numbered(b"saved ", first);
     console::numbered(b" ", second);
     let mut space = [BEFORE; SPACE];
-    let well = make_and_save(rt, Pair::Numbers { first, second }, &mut space);
+    let well = make_and_save(rt, (first, second), &mut space);
     tell(well, b": well", b": badly");
     let k = files::read(rt, b".", b"/load.bin", &mut space);
     compare(rt, name, &space, k);
     console::text(b"\n");
 }
 
-fn make_and_save<R: Files + ProcessId>(rt: &R, pair: Pair, space: &mut [u8]) -> bool {
-    let made = load_text::make_load(pair, space);
+fn make_and_save<R: Files + ProcessId>(rt: &R, pair: (u64, u64), space: &mut [u8]) -> bool {
+    let made = load_text::make_load(Some(pair), space);
     files::save_load(rt, made, space).is_ok()
 }
 
@@ -171,11 +183,4 @@ fn tell(so: bool, text: &[u8], other: &[u8]) {
     } else {
         console::text(other);
     }
-}
-
-fn lent(seed: u32, count: usize, space: &mut [u8], room: usize) -> Written {
-    if space.len() < room {
-        return load_log::write(seed, count, space);
-    }
-    load_log::write(seed, count, &mut space[0..room])
 }

@@ -1,5 +1,9 @@
-use Rattle.files.proofs.Paths.{none}
+use Rattle.std.proofs.Common.{List, ℕ, [], refl, arith}
+use Rattle.files.specs.Paths.{Starts}
 use Rattle.files.proofs.spare_name.Goals as goal
+
+none : (path : List ℕ) → Starts [] path 0
+none path = record { is = λ h. refl; long = λ h. absurd (omega arith) }
 
 -- the figures are put behind the dot, which is put behind the name
 pub returns : goal.returns
