@@ -32,6 +32,9 @@ pub struct Stamp {
     pub at: [u16; THREADS],
 }
 
+// The stamp that counts no event.
+pub const NO_STAMP: Stamp = Stamp { at: [0; THREADS] };
+
 // Where the rows start that an event hears and tells beside its own; its own again where there is none.
 #[derive(Clone, Copy)]
 struct Rows {
@@ -67,7 +70,7 @@ fn arrive(clocks: &mut [u16; CLOCKS], e: Event) -> Stamp
     ensures after { clocks.new ≡ clocks_after clocks.old e }
 {
     if event::range(event::slot_of(e)).is_err() {
-        return Stamp { at: [0; THREADS] };
+        return NO_STAMP;
     }
     let t = e.thread;
     let op = e.operation;
@@ -83,12 +86,11 @@ fn alone(clocks: &mut [u16; CLOCKS], t: u8, mark: u16) -> Stamp
     ensures stamp { result ≡ stamp_by clocks.old (record { thread = t; operation = Mark mark }) }
     ensures after { clocks.new ≡ clocks_after clocks.old (record { thread = t; operation = Mark mark }) }
 {
-    let none = Stamp { at: [0; THREADS] };
     if t >= event::THREADS {
-        return none;
+        return NO_STAMP;
     }
     let row = thread_row(t);
-    let own = hear(none, clocks, row);
+    let own = hear(NO_STAMP, clocks, row);
     let s = tick(own, t as usize);
     tell(clocks, row, s);
     s
@@ -169,8 +171,7 @@ fn listen(clocks: &[u16; CLOCKS], t: u8, rows: Rows) -> Stamp
     requires { (t < threads) × ((rows.first + threads ≤ size) × (rows.second + threads ≤ size)) }
     ensures { result ≡ heard clocks.now t rows }
 {
-    let none = Stamp { at: [0; THREADS] };
-    let own = hear(none, clocks, thread_row(t));
+    let own = hear(NO_STAMP, clocks, thread_row(t));
     let first = hear(own, clocks, rows.first);
     let both = hear(first, clocks, rows.second);
     tick(both, t as usize)

@@ -12,10 +12,7 @@ use clock::Stamp;
 pub fn stamps_of(log: &[u8], n: usize, numbers: [u16; event::SLOTS]) -> [Stamp; event::SLOTS]
     ensures { (es : List Event) (m : ℕ) → Leads log.now es m → n ≤ length es → StampsTo es numbers n result }
 {
-    let none = Stamp {
-        at: [0; clock::THREADS],
-    };
-    let mut stamps = [none; event::SLOTS];
+    let mut stamps = [clock::NO_STAMP; event::SLOTS];
     let mut clocks = clock::fresh();
     let mut at: usize = 0;
     for i in 0..n {

@@ -35,9 +35,7 @@ pub fn none_found(keys: [u16; event::SLOTS]) -> Search
         want: keys[0],
         running: false,
         numbers: [0; event::SLOTS],
-        stamps: Stamp {
-            at: [0; clock::THREADS],
-        },
+        stamps: clock::NO_STAMP,
     }
 }
 

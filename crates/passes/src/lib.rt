@@ -27,9 +27,7 @@ pub fn follow(
     ensures last { last.new ≡ cond running (last_by clocks.old keys key e last.old) last.old }
 {
     if !running {
-        return Stamp {
-            at: [0; clock::THREADS],
-        };
+        return clock::NO_STAMP;
     }
     // Copied here, so that nothing is copied for an event where the clocks stand still.
     let taken = e;
@@ -58,9 +56,7 @@ pub fn pass(
 ) -> Stamp
     ensures { (es : List Event) (m : ℕ) → Leads log.now es m → Stamped es keys n clocks.old last.old result clocks.new last.new }
 {
-    let mut stamp = Stamp {
-        at: [0; clock::THREADS],
-    };
+    let mut stamp = clock::NO_STAMP;
     let mut at: usize = 0;
     for i in 0..n {
         let Ok(Some((event, next))) = command::read_event(log, at) else {

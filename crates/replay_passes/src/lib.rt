@@ -20,9 +20,7 @@ pub fn write(
     ensures { (es : List Event) → ReadAs log.now es → NamedAmong es numbers size n → length log.now ≤ length buffer.old → Replays es (take size numbers) buffer.old result buffer.new }
 {
     let stamps = event_stamps::stamps_of(log, n, numbers);
-    let mut written = Stamp {
-        at: [0; clock::THREADS],
-    };
+    let mut written = clock::NO_STAMP;
     let mut at: usize = 0;
     for j in 0..size {
         let stamp = stamps[j];
