@@ -15,6 +15,7 @@ ghost use Rattle.clock.specs.Arrivals.{ClocksOf, Arrived};
 
 use event::{Event, Operation, Touch};
 
+// Kept: rows of numbers and not structs, since a session's parts are lent to C as they stand.
 // A row has an entry for each thread. There is a row for each thread, for the reads and for the writes of each variable, and for each lock.
 pub const THREADS: usize = event::THREADS as usize;
 

@@ -14,6 +14,7 @@ ghost use Rattle.table.specs.Keeps.{Fits, ByThread, Keeps, Follows, NumbersFound
 use clock::Stamp;
 
 // A row has the places of the slots, then their event numbers, and last whether there is a row.
+// Kept: rows of numbers and not structs, since a session's parts are lent to C as they stand, and a row is read and compared as one vector.
 const LANES: usize = 8;
 
 const ROW: usize = 2 * LANES;
@@ -204,6 +205,7 @@ pub fn found(table: &[u16; TABLE], size: usize) -> bool
 }
 
 // The count once event number n has been offered: n where all slots have a row, else 0.
+// Kept: a number and not an Option, since a session keeps it among the parts that C lends.
 pub fn count_at(table: &[u16; TABLE], size: usize, n: u16) -> u16
     ensures { result ≡ cond (found_in table.now size) n 0 }
 {
