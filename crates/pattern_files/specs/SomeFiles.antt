@@ -1,6 +1,6 @@
 -- Some pattern files: what is known of them, and their lines by some log. No contract can say which bytes the system reads of a file.
-use Rattle.std.specs.Prelude.{ℕ, ◌≡◌, List, length}
-use Rattle.writer.specs.declared.Written.{Written}
+use Rattle.std.specs.Prelude.{ℕ, ◌≡◌, List, length, Result}
+use Rattle.event.specs.declared.refusal.Refused.{Refused}
 use Rattle.page.specs.Page.{PutIn}
 use Rattle.session_row.specs.Row.{most}
 use Rattle.listings_text.specs.declared.Watched.{Watched}
@@ -14,7 +14,7 @@ pub record Watching (n : ℕ) (w : Watched) : Type 0 where
   pub kept : WatchedOf files w
 
 -- the buffer before and after, and the answer: they are those of the lines of some sixteen pattern files, each of which can't be opened or holds some bytes, and some log
-pub record SomeListings (before after : List ℕ) (r : Written) : Type 0 where
+pub record SomeListings (before after : List ℕ) (r : Result ℕ Refused) : Type 0 where
   pub files : List File
   pub many : length files ≡ most
   pub log : List ℕ

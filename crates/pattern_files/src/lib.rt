@@ -8,12 +8,12 @@ ghost use Rattle.session_row.specs.Row.{most};
 ghost use Rattle.listings_text.specs.Listings.{file_name};
 ghost use Rattle.pattern_files.specs.SomeFiles.{Watching, SomeListings};
 
+use event::refusal::Refused;
 use listings_text::Watched;
 use std::rt::Files;
-use writer::Written;
 
 // Writes what the program `listings` prints for a folder's pattern01.bin to pattern16.bin and its log.bin at the start of a lent buffer.
-pub fn listings(rt: &impl Files, folder: &[u8], buffer: &mut [u8]) -> Written
+pub fn listings(rt: &impl Files, folder: &[u8], buffer: &mut [u8]) -> Result<usize, Refused>
     ensures { SomeListings buffer.old buffer.new result }
 {
     let w = watch(rt, folder);
@@ -34,6 +34,7 @@ fn watch(rt: &impl Files, folder: &[u8]) -> Watched
 }
 
 // With one file more, the one whose number is k + 1; one that can't be opened changes nothing.
+#[tactic(auto, using(crate::proofs::Watching::not_there))]
 fn watch_file(rt: &impl Files, w: Watched, folder: &[u8], k: usize) -> Watched
     requires { k < most }
     ensures { Watching k w → Watching (k + 1) result }
