@@ -1,14 +1,12 @@
 // One command: read at a place, written at a place of a buffer of bytes EE; whether an event fits a slot.
-use crate::buffers;
-use crate::buffers::NOWHERE;
-use command::{Decoded, EventRead, SlotRead};
+use command::Reading;
+use event::refusal::Refused;
 use event::{Event, Operation, Slot, SlotOperation};
-use writer::Written;
 
 // The command that bytes begin with, its numbers not held to their limits; mark 0 of thread 0 where they have none.
 pub(crate) fn of(bytes: &[u8], tall: bool) -> Event {
     match command::decode(bytes, 0, tall) {
-        Decoded::Command { event, next: _ } => event,
+        Ok(Some((event, _))) => event,
         _ => Event {
             thread: 0,
             operation: Operation::Mark { mark: 0 },
@@ -18,8 +16,7 @@ pub(crate) fn of(bytes: &[u8], tall: bool) -> Event {
 
 pub(crate) fn show_slot(s: Slot) {
     console::numbered(b"thread ", s.thread as u64);
-    let op = s.operation;
-    show_operation(op);
+    show_operation(s.operation);
 }
 
 fn show_operation(op: SlotOperation) {
@@ -36,12 +33,7 @@ fn show_operation(op: SlotOperation) {
 
 fn show_event(e: Event) {
     show_slot(event::slot_of(e));
-    let op = e.operation;
-    if let Operation::Write {
-        variable: _,
-        height,
-    } = op
-    {
+    if let Operation::Write { height, .. } = e.operation {
         console::text(b" height ");
         show_height(height);
     }
@@ -49,56 +41,52 @@ fn show_event(e: Event) {
 
 // Millimetres, a minus sign before those below zero.
 fn show_height(mm: i32) {
-    if 0 <= mm {
-        console::number(mm as u64);
-        return;
+    if mm < 0 {
+        console::text(b"-");
     }
-    let below = -1 - mm;
-    console::text(b"-");
-    console::number(below as u64 + 1);
+    console::number(u64::from(mm.unsigned_abs()));
 }
 
 // Shows what stands at a place, and answers the place after it.
-fn show_at(bytes: &[u8], place: usize, tall: bool) -> usize {
+fn show_at(bytes: &[u8], place: usize, tall: bool) -> Option<usize> {
     if tall {
-        return show_event_at(bytes, place);
+        return show_event_at(command::read_event(bytes, place));
     }
-    show_slot_at(bytes, place)
+    show_slot_at(command::read_slot(bytes, place))
 }
 
-fn show_event_at(bytes: &[u8], place: usize) -> usize {
-    match command::read_event(bytes, place) {
-        EventRead::Event { event, next } => {
+fn show_event_at(read: Reading<Event>) -> Option<usize> {
+    match read {
+        Ok(Some((event, next))) => {
             show_event(event);
-            return next;
+            return Some(next);
         }
-        EventRead::End => console::text(b"end"),
-        EventRead::LogRefused { number, offset } => console::refusal(number, offset),
+        Ok(None) => console::text(b"end"),
+        Err(refused) => console::refusal(refused),
     }
-    NOWHERE
+    None
 }
 
-fn show_slot_at(bytes: &[u8], place: usize) -> usize {
-    match command::read_slot(bytes, place) {
-        SlotRead::Slot { slot, next } => {
+fn show_slot_at(read: Reading<Slot>) -> Option<usize> {
+    match read {
+        Ok(Some((slot, next))) => {
             show_slot(slot);
-            return next;
+            return Some(next);
         }
-        SlotRead::End => console::text(b"end"),
-        SlotRead::PatternRefused { number, offset } => console::pattern_refusal(number, offset),
+        Ok(None) => console::text(b"end"),
+        Err(refused) => console::pattern_refusal(refused),
     }
-    NOWHERE
+    None
 }
 
 pub(crate) fn at(bytes: &[u8], place: usize, tall: bool) {
-    let next = show_at(bytes, place, tall);
-    if next != NOWHERE {
+    if let Some(next) = show_at(bytes, place, tall) {
         console::numbered(b", next ", next as u64);
     }
 }
 
 // Writes the event, or the slot that it fits.
-fn write_either(buffer: &mut [u8], at: usize, e: Event, tall: bool) -> Written {
+fn write_either(buffer: &mut [u8], at: usize, e: Event, tall: bool) -> Result<usize, Refused> {
     if tall {
         return writer::write_event(buffer, at, e);
     }
@@ -113,7 +101,7 @@ pub(crate) fn write(e: Event, tall: bool, at: usize, room: usize) {
     let mut buffer = [0xEEu8; 10];
     let w = write_either(&mut buffer[..room], at, e, tall);
     show_written(w);
-    show_ten(&buffer);
+    show_buffer(&buffer);
 }
 
 pub(crate) fn end(at: usize, room: usize) {
@@ -123,18 +111,14 @@ pub(crate) fn end(at: usize, room: usize) {
     let mut buffer = [0xEEu8; 10];
     let w = writer::write_end(&mut buffer[..room], at);
     show_written(w);
-    show_ten(&buffer);
+    show_buffer(&buffer);
 }
 
-fn show_written(w: Written) {
+fn show_written(w: Result<usize, Refused>) {
     match w {
-        Written::Next { at } => console::numbered(b"next ", at as u64),
-        Written::Refused { number, offset } => console::refusal(number, offset),
+        Ok(at) => console::numbered(b"next ", at as u64),
+        Err(refused) => console::refusal(refused),
     }
-}
-
-fn show_ten(buffer: &[u8; 10]) {
-    show_buffer(buffer);
 }
 
 // At most 32 bytes, which were EE.
@@ -151,15 +135,14 @@ pub(crate) fn show_buffer(buffer: &[u8]) {
 // Writes a command behind one byte, shows the buffer, and reads the command back there.
 pub(crate) fn back(e: Event, tall: bool) {
     let mut buffer = [0xEEu8; 9];
-    let to = buffers::next_place(write_either(&mut buffer, 1, e, tall));
+    let to = write_either(&mut buffer, 1, e, tall).ok();
     console::bytes(&buffer);
     console::text(b": ");
-    let next = show_at(&buffer, 1, tall);
-    if next == to {
+    if show_at(&buffer, 1, tall) == to {
         console::text(b", next place agrees");
-        return;
+    } else {
+        console::text(b", OTHER NEXT PLACE");
     }
-    console::text(b", OTHER NEXT PLACE");
 }
 
 // Whether the event fits the slot that `like` fits.

@@ -1,24 +1,22 @@
 // What order queries, runs, sessions, replays and the calls for orders say.
-ghost use Rattle.std.specs.Prelude.{◌≡◌, length};
-ghost use Rattle.order_rows.specs.Rows.{order_places};
-
 use crate::commands;
-use command::Decoded;
 use event::Event;
-use order_query::Order;
-use orders_log::{Given, GivenRow};
+use event::refusal::Refused;
+use order_query::QueryRefusal;
+use order_rows::PLACES;
+use orders_log::{Given, OrdersRefusal};
 use relation::Relation;
-use run::{Judged, Outcome};
-use session::{Answer, Found, Session, Verdict};
+use run::RunRefusal;
+use session::{Session, Verdict};
 
 // How one event of the log stands to another.
 pub(crate) fn order(log: &[u8], first: usize, second: usize) {
     match order_query::query(log, first, second) {
-        Order::Related { relation } => show_relation(relation),
-        Order::LogRefused { number, offset } => console::refusal(number, offset),
-        Order::QueryRefused { number, offset } => {
+        Ok(relation) => show_relation(relation),
+        Err(QueryRefusal::Log(refused)) => console::refusal(refused),
+        Err(QueryRefusal::Query(refused)) => {
             console::text(b"query ");
-            console::refusal(number, offset);
+            console::refusal(refused);
         }
     }
 }
@@ -41,18 +39,19 @@ pub(crate) fn given(first: bool, log: &[u8], order: &[u8]) {
     show_given(orders_log::next(log, order));
 }
 
-fn show_given(r: GivenRow)
-    requires { length r.row ≡ order_places }
-{
-    let given = r.given;
-    let row = r.row;
+// What was given, and the row, which without an order is all 0.
+fn show_given(given: Given) {
+    let mut row = [0u8; PLACES];
     match given {
-        Given::Order => console::text(b"order"),
-        Given::Last => console::text(b"last"),
-        Given::LogRefused { number, offset } => console::refusal(number, offset),
-        Given::OrdersRefused { number, offset } => {
+        Ok(Some(order)) => {
+            console::text(b"order");
+            row = order;
+        }
+        Ok(None) => console::text(b"last"),
+        Err(OrdersRefusal::Log(refused)) => console::refusal(refused),
+        Err(OrdersRefusal::Orders(refused)) => {
             console::text(b"orders ");
-            console::refusal(number, offset);
+            console::refusal(refused);
         }
     }
     console::text(b",");
@@ -79,22 +78,26 @@ pub(crate) fn replay(log: &[u8], pattern: &[u8], room: usize) {
         return;
     }
     let mut buffer = [0xEEu8; 32];
-    let r = replay_log::write(pattern, log, &mut buffer[..room]);
-    let judged = r.judged;
-    show_judged(judged);
-    console::numbered(b", length ", r.length as u64);
-    show_all(&buffer);
+    let replayed = replay_log::write(pattern, log, &mut buffer[..room]);
+    show_judged(replayed.map(|r| r.verdict));
+    let length = replayed.map_or(0, |r| r.length);
+    console::numbered(b", length ", length as u64);
+    commands::show_buffer(&buffer);
 }
 
-fn show_all(buffer: &[u8; 32]) {
-    commands::show_buffer(buffer);
-}
-
-fn show_judged(judged: Judged) {
-    let outcome = judged.outcome;
-    let numbers = judged.numbers;
-    show_outcome(outcome);
-    show_numbers(numbers);
+// What a run says; after a refusal no events are named.
+fn show_judged(judged: Result<Verdict, RunRefusal>) {
+    match judged {
+        Ok(verdict) => show_verdict(verdict),
+        Err(RunRefusal::Pattern(refused)) => {
+            console::pattern_refusal(refused);
+            show_numbers([0; event::SLOTS]);
+        }
+        Err(RunRefusal::Log(refused)) => {
+            console::refusal(refused);
+            show_numbers([0; event::SLOTS]);
+        }
+    }
 }
 
 // Hands an event to a session so many times and once more, and shows the last answer and the verdict.
@@ -102,71 +105,52 @@ pub(crate) fn more(e: Event, pattern: &[u8], count: usize) {
     let opened = Session::open(pattern);
     let s = repeated(opened.session, e, count);
     let h = s.take(e);
-    let answer = h.answer;
-    show_answer(answer);
+    show_answer(h.answer);
     console::text(b"\nthen: ");
-    let last = h.session;
-    show_verdict(last.verdict());
+    show_verdict(h.session.verdict());
 }
 
 fn handed(from: Session, log: &[u8]) -> Session {
     let mut s = from;
     let mut at: usize = 0;
-    loop {
-        let step = command::decode(log, at, true);
-        let Decoded::Command { event, next } = step else {
-            return s;
-        };
+    while let Ok(Some((event, next))) = command::decode(log, at, true) {
         let h = s.take(event);
-        let answer = h.answer;
-        show_answer(answer);
+        show_answer(h.answer);
         console::text(b", ");
         s = h.session;
         at = next;
     }
+    s
 }
 
 // The session after `count` times the event.
 fn repeated(from: Session, e: Event, count: usize) -> Session {
     let mut s = from;
-    for n in 0..count {
-        let h = s.take(e);
-        s = h.session;
+    for _ in 0..count {
+        s = s.take(e).session;
     }
     s
 }
 
 // The event number of each slot, a space before it.
-fn show_numbers(numbers: [u16; 5]) {
+fn show_numbers(numbers: [u16; event::SLOTS]) {
     console::text(b", events");
-    for i in 0..5 {
-        console::text(b" ");
-        console::number(numbers[i] as u64);
-    }
-}
-
-fn show_outcome(outcome: Outcome) {
-    match outcome {
-        Outcome::Match { count } => console::numbered(b"match at ", count as u64),
-        Outcome::None => console::text(b"no match"),
-        Outcome::PatternRefused { number, offset } => console::pattern_refusal(number, offset),
-        Outcome::LogRefused { number, offset } => console::refusal(number, offset),
+    for n in numbers {
+        console::numbered(b" ", u64::from(n));
     }
 }
 
 fn show_verdict(v: Verdict) {
-    let found = v.found;
-    match found {
-        Found::Match { count } => console::numbered(b"match at ", count as u64),
-        Found::None => console::text(b"no match"),
+    match v.found {
+        Some(count) => console::numbered(b"match at ", count as u64),
+        None => console::text(b"no match"),
     }
-    let numbers = v.numbers;
-    show_numbers(numbers);
+    show_numbers(v.numbers);
 }
 
-fn show_answer(a: Answer) {
-    match a {
-        Answer::Taken => console::text(b"taken"),
-        Answer::Refused { number, offset } => console::refusal(number, offset),
+fn show_answer(answer: Result<(), Refused>) {
+    match answer {
+        Ok(()) => console::text(b"taken"),
+        Err(refused) => console::refusal(refused),
     }
 }

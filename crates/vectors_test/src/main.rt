@@ -73,7 +73,7 @@ fn longer_head(line: &[u8], space: &mut [u8], head: usize) -> usize {
     let bar = console::find(line, colon, b'|');
     let count = spelled::decimal(line, bar);
     let mut end = head;
-    for n in 0..count {
+    for _ in 0..count {
         end = spelled::put_bytes(line, colon, space, end);
     }
     end

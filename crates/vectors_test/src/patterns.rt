@@ -1,42 +1,41 @@
 // Whole patterns: how many slots, or the refusal; the slots that are kept.
 use crate::commands;
-use event::Slot;
-use event_log::PatternAnswer;
+use event::refusal::Refused;
+use event::{SLOTS, Slot, SlotOperation};
+use event_log::Pattern;
 
 pub(crate) fn read(bytes: &[u8]) {
-    let read = event_log::read_pattern(bytes);
-    let answer = read.answer;
-    show(answer);
+    show(event_log::read_pattern(bytes));
 }
 
-fn show(answer: PatternAnswer) {
-    match answer {
-        PatternAnswer::Accepted { slots } => {
-            console::number(slots as u64);
+fn show(read: Result<Pattern, Refused>) {
+    match read {
+        Ok(pattern) => {
+            console::number(pattern.size as u64);
             console::text(b" slots");
         }
-        PatternAnswer::PatternRefused { number, offset } => console::pattern_refusal(
-            number, offset,
-        ),
+        Err(refused) => console::pattern_refusal(refused),
     }
 }
 
-// The answer, and the pattern that comes with it: its size and its five places.
+// The answer, and the pattern: its size and its five places, which after a refusal are none.
 pub(crate) fn kept(bytes: &[u8]) {
     let read = event_log::read_pattern(bytes);
-    let answer = read.answer;
-    show(answer);
-    let pattern = read.pattern;
-    let slots = pattern.slots;
+    show(read);
+    let pattern = read.unwrap_or(nothing());
     console::numbered(b", size ", pattern.size as u64);
-    next(slots[0]);
-    next(slots[1]);
-    next(slots[2]);
-    next(slots[3]);
-    next(slots[4]);
+    for slot in pattern.slots {
+        console::text(b"; ");
+        commands::show_slot(slot);
+    }
 }
 
-fn next(s: Slot) {
-    console::text(b"; ");
-    commands::show_slot(s);
+fn nothing() -> Pattern {
+    Pattern {
+        slots: [Slot {
+            thread: 0,
+            operation: SlotOperation::Mark { mark: 0 },
+        }; SLOTS],
+        size: 0,
+    }
 }

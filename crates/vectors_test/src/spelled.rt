@@ -4,10 +4,7 @@ ghost use Rattle.io.specs.Counts.{IsPrefixLen};
 
 // The first byte, 0 without one.
 pub(crate) fn first(s: &[u8]) -> u8 {
-    if s.len() < 1 {
-        return 0;
-    }
-    s[0]
+    s.first().copied().unwrap_or(0)
 }
 
 // Where the title starts: after the word and a space, or at the colon where there is none.
@@ -26,21 +23,16 @@ pub(crate) fn put_bytes(s: &[u8], mark: usize, out: &mut [u8], from: usize) -> u
     requires { mark ≤ length s.now }
     ensures { IsPrefixLen result out.new }
 {
-    if out.len() < from {
-        return out.len();
-    }
-    let mut n = from;
-    let mut high = mark + 2;
-    while n < out.len() {
-        if s.len() <= high + 1 {
+    let mut n = from.min(out.len());
+    for digits in s.get(mark + 2..).unwrap_or(b"").chunks(3) {
+        let [high, low, ..] = digits else {
+            return n;
+        };
+        if *high == b'|' || out.len() <= n {
             return n;
         }
-        if s[high] == b'|' {
-            return n;
-        }
-        out[n] = 16 * digit(s[high]) + digit(s[high + 1]);
+        out[n] = 16 * digit(*high) + digit(*low);
         n += 1;
-        high += 3;
     }
     n
 }
