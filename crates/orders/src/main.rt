@@ -1,14 +1,11 @@
 // Prints every order of log.bin, read in the folder where it is run, first to last, a line each.
 #![tactic(auto)]
 
-ghost use Rattle.std.specs.Prelude.{◌≡◌, true};
 ghost use Rattle.files.specs.Listed.{InPage};
-ghost use Rattle.orders_log.specs.declared.Given.TheVariants.{Order};
 
-use orders_log::{Given, GivenRow};
+use event::refusal::Refused;
 use std::io;
 use std::io::{Error, ErrorKind, Print};
-use writer::Written;
 
 fn main(rt: HostRuntime) {
     if 1 < arguments::arg_count(&rt) {
@@ -26,37 +23,20 @@ fn main(rt: HostRuntime) {
 fn all(rt: &impl Print, log: &[u8]) -> io::Result<()> {
     let mut page = [0u8; page::ROOM];
     let begun = orders_text::begin(log, &mut page);
-    let mut r = begun.given;
-    let first = begun.written;
-    print(rt, &page, first)?;
-    while is_order(r) {
-        let row = r.row;
-        r = orders_log::next(log, &row);
-        let written = orders_text::write(r, &mut page);
+    print(rt, &page, begun.written)?;
+    let mut given = begun.given;
+    while let Ok(Some(row)) = given {
+        given = orders_log::next(log, &row);
+        let written = orders_text::write(given, &mut page);
         print(rt, &page, written)?;
     }
     Ok(())
 }
 
-fn is_order(r: GivenRow) -> bool
-    ensures { result ≡ true → r.given ≡ Order }
-{
-    let given = r.given;
-    match given {
-        Given::Order => true,
-        _ => false,
-    }
-}
-
 // Prints what was written at the start of the page.
-fn print(rt: &impl Print, page: &[u8], written: Written) -> io::Result<()>
+fn print(rt: &impl Print, page: &[u8], written: Result<usize, Refused>) -> io::Result<()>
     requires { InPage written page.now }
 {
-    match written {
-        Written::Next { at } => rt.write_all(&page[..at]),
-        Written::Refused {
-            number: _,
-            offset: _,
-        } => Err(Error::from(ErrorKind::FileTooLarge)),
-    }
+    let n = written.map_err(|_| Error::from(ErrorKind::FileTooLarge))?;
+    rt.write_all(&page[..n])
 }
