@@ -10,7 +10,6 @@ use borrow.Author.Tests.{le-leb, lt-leb, leb-true, leb-false}
 use Rattle.event.specs.Limits.{events}
 use Rattle.event.proofs.Tests.{by_test}
 use Rattle.writer.specs.Writing.{Writing, written, refused, put}
-use Rattle.writer.proofs.Buffers.{length_put}
 use Rattle.event_log.proofs.Writes.{written_part}
 use Rattle.event_log.proofs.RowBytes.{same_place}
 use Rattle.load_log.specs.Load.{IsLoad, load_bytes, loading, loaded}
@@ -67,12 +66,6 @@ module _ (seed count : ℕ) (buffer : List ℕ) where
     where
       never : (n : ℕ) → refused n 0 ≡ refused k o → 0 < n → ⊥
       never n e l = let same : n ≡ k = cc in omega arith
-
-  pub load_within : {n : ℕ} → loading seed count buffer ≡ written n → n ≤ length (loaded seed count buffer)
-  load_within {n} q =
-      let t = answer_tells q in
-      let kept : length (put (load_bytes seed count) buffer 0) ≡ length buffer = length_put (load_bytes seed count) buffer 0 (omega (arith, t.room)) in
-      rw (sym (load_made t.most t.room).1) (omega (arith, t.long, t.room))
 
   -- "write a log into a lent buffer": what stands at its start is the load
   pub written_load : {n : ℕ} → loading seed count buffer ≡ written n → IsLoad seed count (take n (loaded seed count buffer))

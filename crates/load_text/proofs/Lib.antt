@@ -1,3 +1,2 @@
--- How long the line is, and that a log that was made lies within its space.
+-- How long the line is.
 pub mod Lengths
-pub mod Within
