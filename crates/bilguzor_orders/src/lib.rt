@@ -13,6 +13,7 @@ use order_rows::PLACES;
 use orders_log::{Given, OrdersRefusal};
 
 // The kinds of an answer: what is refused, as in `bilguzor`; an order; that the given one was the last.
+// Kept: the C interface gives a kind as a number.
 pub const LOG_REFUSED: u8 = 3;
 
 pub const QUERY_REFUSED: u8 = 4;

@@ -11,6 +11,7 @@ use event::Event;
 pub const MOST: usize = 8;
 
 // The kinds of events by the byte of their command.
+// Kept: the contracts speak of an event as one number, so that its kind is a number too.
 pub const READ: u32 = 1;
 
 pub const WRITE: u32 = 2;
@@ -26,6 +27,7 @@ pub const JOIN: u32 = 6;
 pub const MARK: u32 = 7;
 
 // The leading events of a log, `count` of them, each as one number.
+// Kept: fixed memory, and the contracts speak of eight numbers.
 #[derive(Clone, Copy)]
 pub struct Leading {
     pub events: [u32; MOST],

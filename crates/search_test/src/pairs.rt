@@ -38,6 +38,7 @@ fn count(
 }
 
 // An answer that can be compared with another.
+// Kept: a relation has no equality of its own.
 fn numbered(answer: Result<Relation, QueryRefusal>) -> Result<u8, QueryRefusal> {
     answer.map(|relation| relation as u8)
 }

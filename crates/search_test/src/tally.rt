@@ -9,6 +9,7 @@ pub const COUNTS: usize = CHILDREN + THREADS;
 
 const THREADS: usize = event::THREADS as usize;
 
+// Kept: the words of the counts are lines of stdin, so that a count is told by its place.
 // The places of the counts. Those of kinds are told by the byte of the operation, those of patterns by the number of slots, those of acting threads and of
 // children by their number.
 pub const KNOWN: usize = 0;

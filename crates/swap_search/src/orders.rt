@@ -13,6 +13,7 @@ pub const MARKS: usize = 262144;
 const RECORDED: [usize; 7] = [0, 1, 2, 3, 4, 5, 6];
 
 // Whether the first `count` events have an order that holds the slots, `size` of them.
+// Kept: fixed memory; in place of a prefix it can be copied, and a size beyond the slots is never held.
 #[derive(Clone, Copy)]
 pub struct Question {
     pub events: [u32; MOST],
