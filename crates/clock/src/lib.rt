@@ -204,12 +204,6 @@ fn tell(clocks: &mut [u16; CLOCKS], to: usize, s: Stamp)
     }
 }
 
-pub fn larger(x: u16, y: u16) -> u16
-    ensures { result ≡ max x y }
-{
-    x.max(y)
-}
-
 // One more of thread t. It goes through every entry, so that the counts stay in one vector.
 #[tactic(auto, unfolding(event::specs::Updated::updated))]
 fn tick(s: Stamp, t: usize) -> Stamp

@@ -44,12 +44,13 @@ pub fn judge(size: usize, s: Search) -> Verdict
 }
 
 // The greatest of the numbers.
+#[tactic(auto, unfolding(crate::specs::Answers::greatest_of))]
 pub fn greatest(numbers: [u16; event::SLOTS]) -> u16
     ensures { result ≡ greatest_of slot_limit numbers }
 {
     let mut most: u16 = 0;
     for j in 0..event::SLOTS {
-        most = clock::larger(numbers[j], most);
+        most = numbers[j].max(most);
     }
     most
 }
