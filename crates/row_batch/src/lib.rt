@@ -15,6 +15,7 @@ use session_row::{PLACES, RowHanded, RowRefusal};
 pub const BATCH: usize = 64;
 
 // Events to be handed over one after another: the first `size`, or all where there are fewer.
+// Kept: fixed memory. The events of a batch are read into an array, and how many they are stands beside; they are lent as a slice.
 #[derive(Clone, Copy)]
 pub struct Batch {
     pub events: [Event; BATCH],
