@@ -1,13 +1,11 @@
 -- Note 6 for sessions in parts: a lent row of them and one event in numbers, and a row over every list of events in numbers.
 use Rattle.std.specs.Prelude.{ℕ, ◌≡◌, List, [], map, length, get_or, replicate}
-use Rattle.session_row.specs.declared.Tally.{Tally}
-use Rattle.session_row.specs.Row.{RowNumbers, numbers_over, Alone, tally_with}
+use Rattle.session_row.specs.Row.{RowNumbers, numbers_over, Alone}
 use Rattle.session_row.specs.RowHistory.{row_after_all, row_numbers_all}
 use Rattle.event_numbers.specs.EventNumbers.{Numbers, handed_over}
 use Rattle.bilguzor_row.specs.declared.EventNumbers.{EventNumbers}
 use Rattle.bilguzor.specs.declared.Parts.{Parts}
 use Rattle.bilguzor_row.specs.declared.RowReport.{RowReport}
-use Rattle.bilguzor_row.specs.declared.TurnedParts.{TurnedParts}
 use Rattle.bilguzor.specs.Sessions.{opened_parts, number_in, parts_after}
 use Rattle.bilguzor.specs.History.{parts_all, refusals_all, EveryHistory}
 
@@ -22,17 +20,6 @@ alone_in n p = record { number = number_in p n; after = parts_after p n }
 -- the numbers of an answer
 abbrev pub report_is : RowReport → RowNumbers
 report_is r = record { number = r.number; offset = r.offset; count = r.count; place = r.place }
-
--- the turn of the session p at index i
-unfoldable pub turned_in : Tally → Parts → EventNumbers → ℕ → TurnedParts
-turned_in t p e i = record { tally = tally_with t (alone_in (handed_numbers e) p).number i; session = (alone_in (handed_numbers e) p).after }
-
--- the answer by the tally; and where the row is too long
-abbrev pub report_of : Tally → RowReport
-report_of t = record { number = t.number; offset = 0; count = t.count; place = t.place }
-
-abbrev pub long_report : RowReport
-long_report = record { number = 18; offset = 0; count = 0; place = 0 }
 
 -- a row of sessions in parts, each fresh from the opening on its pattern's bytes, and handed every event of a list in numbers: "Each session ends as it
 -- would alone", of which demand 3 tells (past the row, of an empty pattern); and each call answers with the numbers of a row whose sessions all go by the rules

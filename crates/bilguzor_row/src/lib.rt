@@ -1,12 +1,14 @@
 // The function that programs in C and Rust call with a row of sessions in parts: a library of its own, so that the others are compiled as if it were not there.
 #![tactic(auto)]
 
-ghost use Rattle.std.specs.Prelude.{◌≡◌, ◌≤◌, ◌<◌};
-ghost use Rattle.session_row.specs.Row.{most, RowTaken};
-ghost use Rattle.bilguzor_row.specs.Rows.{handed_numbers, alone_in, report_is, turned_in, report_of, long_report};
+ghost use Rattle.std.specs.Prelude.{◌≡◌};
+ghost use Rattle.event.specs.Refusals.{number_given};
+ghost use Rattle.session_row.specs.Row.{RowTaken, row_answer_is};
+ghost use Rattle.bilguzor_row.specs.Rows.{handed_numbers, alone_in, report_is};
 
 use bilguzor::Parts;
-use session_row::Tally;
+use event::refusal::Refusal;
+use session_row::RowRefusal;
 
 // An event in numbers, whatever they are.
 #[repr(C)]
@@ -29,94 +31,51 @@ pub struct RowReport {
     pub place: usize,
 }
 
-#[derive(Clone, Copy)]
-struct TurnedParts {
-    tally: Tally,
-    session: Parts,
-}
-
 // Hands one event in numbers to each session of a lent row, in row order. One that refuses stays as it was, and the others go on.
 #[unsafe(no_mangle)]
 pub extern "C" fn bilguzor_take_all(row: &mut [Parts], e: EventNumbers) -> RowReport
     ensures { RowTaken (alone_in (handed_numbers e)) row.old (report_is result) row.new }
 {
-    let n = row.len();
-    if n > session_row::MOST {
-        return row_too_long();
-    }
-    let mut tally = Tally {
-        count: 0,
-        place: 0,
-        number: 0,
-    };
-    let mut i = 0;
-    while i < n {
-        let t = turn_parts(tally, row[i], e, i);
-        row[i] = t.session;
-        tally = t.tally;
-        i = i + 1;
-    }
-    report_of(tally)
+    let answer = session_row::each_in_turn(row, |p| hand(p, e));
+    report_of(answer)
 }
 
-// The turn of one session, that of the row's place i + 1.
-fn turn_parts(tally: Tally, p: Parts, e: EventNumbers, i: usize) -> TurnedParts
-    requires { (i < most) × (tally.count ≤ i) }
-    ensures { result ≡ turned_in tally p e i }
+// What taking one event makes of a session in parts.
+fn hand(p: Parts, e: EventNumbers) -> (Result<(), Refusal>, Parts)
+    ensures { (number_given result.0 ≡ (alone_in (handed_numbers e) p).number) × (result.1 ≡ (alone_in (handed_numbers e) p).after) }
 {
     let slots = p.slots;
-    let mut clocks = p.clocks;
-    let mut table = p.table;
-    let mut state = p.state;
-    let mut taken = p.taken;
-    let mut count = p.count;
-    let answer = bilguzor::bilguzor_take(
+    let mut parts = p;
+    let given = bilguzor::take_in_parts(
         &slots,
         p.size,
-        &mut clocks,
-        &mut table,
-        &mut taken,
-        &mut count,
-        &mut state,
+        &mut parts.clocks,
+        &mut parts.table,
+        &mut parts.taken,
+        &mut parts.count,
+        &mut parts.state,
         e.thread,
         e.operation,
         e.object,
         e.height,
     );
-    let next = session_row::tell(tally, answer.number, i);
-    let session = Parts {
-        slots,
-        size: p.size,
-        clocks,
-        table,
-        taken,
-        count,
-        state,
+    (given, parts)
+}
+
+fn report_of(answer: Result<(), RowRefusal>) -> RowReport
+    ensures { report_is result ≡ row_answer_is answer }
+{
+    let (number, count, place) = match answer {
+        Ok(()) => (0, 0, 0),
+        Err(RowRefusal::TooLong) => (Refusal::RowTooLong.number(), 0, 0),
+        Err(RowRefusal::Refused(refused)) => {
+            (refused.reason.number(), refused.count, refused.place)
+        }
     };
-    TurnedParts {
-        tally: next,
-        session,
-    }
-}
-
-fn report_of(t: Tally) -> RowReport
-    ensures { result ≡ report_of t }
-{
     RowReport {
-        number: t.number,
+        number,
         offset: 0,
-        count: t.count,
-        place: t.place,
-    }
-}
-
-fn row_too_long() -> RowReport
-    ensures { result ≡ long_report }
-{
-    RowReport {
-        number: 18,
-        offset: 0,
-        count: 0,
-        place: 0,
+        count,
+        place,
     }
 }
