@@ -3,10 +3,9 @@
 // file that is saved, and a replay, are read again as they should be.
 #![tactic(auto)]
 
-use arguments::Pair;
+use event::refusal::Refused;
 use files::ProcessId;
 use std::rt::{Env, Files};
-use writer::Written;
 
 const NAMES: usize = 64;
 
@@ -40,10 +39,8 @@ fn lines(rt: &impl Files, folder: &[u8]) {
 // Their folders are named after two numbers.
 fn examples<R: Env + Files>(rt: &R) {
     let count = arguments::arg_count(rt);
-    for n in 3..NAMES {
-        if n < count {
-            example(rt, n);
-        }
+    for n in 3..NAMES.min(count) {
+        example(rt, n);
     }
 }
 
@@ -104,11 +101,10 @@ fn ordered<R: Env + Files>(rt: &R) {
 }
 
 fn asked(rt: &impl Files, folder: &[u8], first: u64, second: u64, due: &[u8]) {
-    let pair = Pair::Numbers { first, second };
-    order(rt, folder, pair, due);
+    order(rt, folder, Some((first, second)), due);
 }
 
-fn order(rt: &impl Files, folder: &[u8], pair: Pair, due: &[u8]) {
+fn order(rt: &impl Files, folder: &[u8], pair: Option<(u64, u64)>, due: &[u8]) {
     let mut page = [0u8; page::ROOM];
     let written = files::order(rt, folder, pair, &mut page);
     io::write_all(1, folder);
@@ -147,7 +143,7 @@ fn reason(rt: &impl Files, folder: &[u8]) {
 }
 
 // Whether what was written is what the folder's file `printed` has.
-fn compare(rt: &impl Files, folder: &[u8], written: Written, page: &[u8]) {
+fn compare(rt: &impl Files, folder: &[u8], written: Result<usize, Refused>, page: &[u8]) {
     let mut printed = [0u8; page::ROOM];
     let k = files::read(rt, folder, b"/printed", &mut printed);
     verdict(holds(written, page, &printed[..k]));
@@ -162,12 +158,6 @@ fn verdict(same: bool) {
 }
 
 // Whether a text was written, and is this one.
-fn holds(written: Written, page: &[u8], text: &[u8]) -> bool {
-    match written {
-        Written::Next { at } => console::starts_with(page, at, text),
-        Written::Refused {
-            number: _,
-            offset: _,
-        } => false,
-    }
+fn holds(written: Result<usize, Refused>, page: &[u8], text: &[u8]) -> bool {
+    written.is_ok_and(|n| console::starts_with(page, n, text))
 }

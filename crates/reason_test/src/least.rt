@@ -6,17 +6,15 @@ use swap_search::lists::LISTS;
 use swap_search::truth::Truth;
 
 pub(crate) fn holds(t: Truth, r: Reason) -> bool {
-    let l = t.leading;
-    let events = r.events;
-    lists::satisfies(t, r.before, l.count, events) && none_smaller(t, r.before, l.count, events)
+    let count = t.leading.count;
+    lists::satisfies(t, r.before, count, r.events) && none_smaller(t, r.before, count, r.events)
 }
 
 fn none_smaller(t: Truth, size: usize, count: usize, events: [u16; 5]) -> bool {
     for n in 0..LISTS {
-        let list = lists::list_of(n, count, size);
-        if list[0] == 0 {
+        let Some(list) = lists::list_of(n, count, size) else {
             return true;
-        }
+        };
         if lists::satisfies(t, size, count, list) && !each_at_most(events, list) {
             return false;
         }
@@ -25,20 +23,16 @@ fn none_smaller(t: Truth, size: usize, count: usize, events: [u16; 5]) -> bool {
 }
 
 fn each_at_most(a: [u16; 5], b: [u16; 5]) -> bool {
-    for i in 0..5 {
-        if b[i] < a[i] {
-            return false;
-        }
-    }
-    true
+    a.iter().zip(b.iter()).all(|(x, y)| x <= y)
 }
 
 // Whether another such list follows the first.
 pub(crate) fn another(t: Truth, r: Reason) -> bool {
-    let l = t.leading;
-    let first = lists::first_from(t, r.before, l.count, 0);
-    if LISTS <= first {
-        return false;
+    let count = t.leading.count;
+    match lists::first_from(t, r.before, count, 0) {
+        Some(first) if first < LISTS => {
+            lists::first_from(t, r.before, count, first + 1).is_some()
+        }
+        _ => false,
     }
-    lists::first_from(t, r.before, l.count, first + 1) < LISTS
 }

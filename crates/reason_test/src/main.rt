@@ -7,9 +7,10 @@ mod plainly;
 mod tally;
 mod wrong;
 
+use run::RunRefusal;
 use swap_search::samples::Sample;
 use swap_search::truth::Truth;
-use swap_search::{orders, samples};
+use swap_search::{counts, orders, samples};
 use tally::COUNTS;
 use verdict_reason::Reasoned;
 
@@ -42,18 +43,13 @@ fn all(
 
 // Compares, where the log and the pattern are within their buffers.
 fn on_log(log: &[u8], pattern: &[u8], s: Sample, counts: &mut [u64; COUNTS]) {
-    let log_size = s.log;
-    let pattern_size = s.pattern;
-    let t = s.truth;
-    if log.len() < log_size {
+    let Some(p) = pattern.get(..s.pattern) else {
         return;
-    }
-    if pattern.len() < pattern_size {
+    };
+    let Some(l) = log.get(..s.log) else {
         return;
-    }
-    let p = &pattern[..pattern_size];
-    let l = &log[..log_size];
-    if !compared(p, l, t, counts) {
+    };
+    if !compared(p, l, s.truth, counts) {
         disagreement(p, l);
     }
     cut_short(p, l, counts);
@@ -61,14 +57,14 @@ fn on_log(log: &[u8], pattern: &[u8], s: Sample, counts: &mut [u64; COUNTS]) {
 
 fn compared(pattern: &[u8], log: &[u8], t: Truth, counts: &mut [u64; COUNTS]) -> bool {
     let read = event_log::read_log(log);
-    let accepted = drawn::accepted(read);
+    let accepted = read.is_ok();
     let present = t.present();
     tally::log(counts, accepted, present);
     let r = verdict_reason::reason(pattern, log);
-    let judged = r.judged;
-    let due = tally::held(counts, tally::ON_MATCH, answers::is_due(judged, t, read));
+    let judged = r.map(|r| r.verdict);
+    let due = counts::held(counts, tally::ON_MATCH, answers::is_due(judged, t, read));
     let same = answers::same(judged, run::run(pattern, log));
-    let run = tally::held(counts, tally::ON_RUNS, same);
+    let run = counts::held(counts, tally::ON_RUNS, same);
     let suffices = suffices(t, accepted, present, counts);
     let right = reasoned(t, r, accepted && !present, counts);
     due & run & suffices & right
@@ -80,45 +76,49 @@ fn suffices(t: Truth, accepted: bool, present: bool, counts: &mut [u64; COUNTS])
         return true;
     }
     let n = plainly::how_many(t);
-    tally::add_if(counts, tally::STOPPED, n != 0);
-    tally::add_if(
+    counts::add_if(counts, tally::STOPPED, n != 0);
+    counts::add_if(
         counts,
         tally::FIRST_STOPPED,
         present && plainly::first_stops(t),
     );
     let right = if present { n == 0 } else { n == 1 };
-    tally::held(counts, tally::ON_STOPPED, right)
+    counts::held(counts, tally::ON_STOPPED, right)
 }
 
 // The reason of a log without a match (`none`); of any other, that the answer has no reason.
-fn reasoned(t: Truth, r: Reasoned, none: bool, counts: &mut [u64; COUNTS]) -> bool {
+fn reasoned(
+    t: Truth,
+    r: Result<Reasoned, RunRefusal>,
+    none: bool,
+    counts: &mut [u64; COUNTS],
+) -> bool {
     if !none {
-        return tally::held(counts, tally::ON_DECIDED, answers::decided(r));
+        return counts::held(counts, tally::ON_DECIDED, answers::decided(r));
     }
-    let due = plainly::reason_of(t);
+    let Some(due) = plainly::reason_of(t) else {
+        return counts::held(counts, tally::ON_REASONS, false);
+    };
     tally::reason(counts, due);
-    tally::add_if(counts, tally::ANOTHER, least::another(t, due));
-    let given = tally::held(counts, tally::ON_REASONS, answers::gives(r, due));
-    let least = tally::held(counts, tally::ON_LEAST, least::holds(t, due));
+    counts::add_if(counts, tally::ANOTHER, least::another(t, due));
+    let given = counts::held(counts, tally::ON_REASONS, answers::gives(r, due));
+    let least = counts::held(counts, tally::ON_LEAST, least::holds(t, due));
     let apart = wrong::told_apart(t, r, due, counts);
-    let told = tally::held(counts, tally::ON_WRONG, apart);
+    let told = counts::held(counts, tally::ON_WRONG, apart);
     given & least & told
 }
 
 // The pattern without its last byte is refused, and there is no reason.
 fn cut_short(pattern: &[u8], log: &[u8], counts: &mut [u64; COUNTS]) {
-    let size = pattern.len();
-    if size < 1 {
+    let Some((_, short)) = pattern.split_last() else {
         return;
-    }
-    let end = size - 1;
-    let short = &pattern[..end];
+    };
     let r = verdict_reason::reason(short, log);
-    let judged = r.judged;
+    let judged = r.map(|r| r.verdict);
     let run = run::run(short, log);
-    tally::add_if(counts, tally::CUT, answers::pattern_refused(judged));
-    tally::held(counts, tally::ON_RUNS, answers::same(judged, run));
-    tally::held(counts, tally::ON_DECIDED, answers::decided(r));
+    counts::add_if(counts, tally::CUT, answers::pattern_refused(judged));
+    counts::held(counts, tally::ON_RUNS, answers::same(judged, run));
+    counts::held(counts, tally::ON_DECIDED, answers::decided(r));
 }
 
 fn disagreement(pattern: &[u8], log: &[u8]) {

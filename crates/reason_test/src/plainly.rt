@@ -1,123 +1,89 @@
 // Why a log has no match, by plain means: the slots filled one after another, each by the first event that fits it and comes before or is none of those chosen,
 // up to a slot for which the last event that fits it can't be taken.
+use swap_search::lists;
 use swap_search::truth::Truth;
-use swap_search::{lists, truth};
 
-// The slot; how many are before it; the last event that fits it, and the lowest slot whose event that one comes before or is; the events of the slots before.
-// 0 where there is none.
+// The slots of a pattern, at most.
+const SLOTS: usize = 5;
+
+// The slot, counted from 1; how many are before it; the last event that fits it, and the lowest slot whose event that one comes before or is; the events of the
+// slots before, and 0 at the other places.
 #[derive(Clone, Copy)]
 pub struct Reason {
     pub slot: usize,
     pub before: usize,
-    pub last: u16,
-    pub earlier: usize,
-    pub events: [u16; 5],
+    pub last: Option<u16>,
+    pub earlier: Option<usize>,
+    pub events: [u16; SLOTS],
 }
 
 // The first slot that is stopped, and by what.
-pub(crate) fn reason_of(t: Truth) -> Reason {
-    for k in 0..5 {
-        if stops(t, k, last_fit(t, k)) {
-            return reason_at(t, k);
-        }
-    }
-    Reason {
-        slot: 0,
-        before: 0,
-        last: 0,
-        earlier: 0,
-        events: [0; 5],
-    }
-}
-
-fn reason_at(t: Truth, k: usize) -> Reason {
+pub(crate) fn reason_of(t: Truth) -> Option<Reason> {
+    let k = (0..SLOTS).find(|&k| stops(t, k, last_fit(t, k)))?;
     let events = chosen(t, k);
     let last = last_fit(t, k);
-    Reason {
-        slot: k % 5 + 1,
+    Some(Reason {
+        slot: k % SLOTS + 1,
         before: k,
         last,
-        earlier: lowest(t, events, k, last),
+        earlier: lowest(t, before(&events, k), last),
         events,
-    }
+    })
 }
 
 // How many slots are stopped.
-pub(crate) fn how_many(t: Truth) -> u64 {
-    let mut n: u64 = 0;
-    for k in 0..5 {
-        let one: u64 = if stops(t, k, last_fit(t, k)) { 1 } else { 0 };
-        n = truth::sum(n, one);
-    }
-    n
+pub(crate) fn how_many(t: Truth) -> usize {
+    (0..SLOTS).filter(|&k| stops(t, k, last_fit(t, k))).count()
 }
 
 // Whether a slot would be stopped if the first event that fits it stood for the last.
 pub(crate) fn first_stops(t: Truth) -> bool {
-    for k in 0..5 {
-        if stops(t, k, first_free(t, k, [0; 5], 0)) {
-            return true;
-        }
-    }
-    false
+    (0..SLOTS).any(|k| stops(t, k, first_free(t, k, &[])))
 }
 
 // Whether the slots before slot k, counted from 0, have their first events, and this one, for slot k, is none or comes before or is one of these.
-fn stops(t: Truth, k: usize, event: u16) -> bool {
-    let sketch = t.sketch;
+fn stops(t: Truth, k: usize, event: Option<u16>) -> bool {
     let events = chosen(t, k);
-    k < sketch.size && all_there(events, k) && (event == 0 || lowest(t, events, k, event) != 0)
+    let earlier = before(&events, k);
+    k < t.sketch.size
+        && earlier.iter().all(|n| *n != 0)
+        && (event.is_none() || lowest(t, earlier, event).is_some())
+}
+
+// The events of the slots before slot k.
+fn before(events: &[u16; SLOTS], k: usize) -> &[u16] {
+    &events[..k.min(SLOTS)]
 }
 
 // The first events of the slots before slot k; 0 where there is none.
-fn chosen(t: Truth, k: usize) -> [u16; 5] {
-    let mut events = [0u16; 5];
-    for i in 0..5 {
-        if i < k {
-            events[i] = first_free(t, i, events, i);
-        }
+fn chosen(t: Truth, k: usize) -> [u16; SLOTS] {
+    let mut events = [0u16; SLOTS];
+    for i in 0..k.min(SLOTS) {
+        let first = first_free(t, i, &events[..i]);
+        events[i] = first.unwrap_or(0);
     }
     events
 }
 
-fn all_there(events: [u16; 5], k: usize) -> bool {
-    for i in 0..5 {
-        if i < k && events[i] == 0 {
-            return false;
-        }
-    }
-    true
-}
-
-// The first event that fits slot i, and comes before or is none of the first k that are chosen.
-pub(crate) fn first_free(t: Truth, i: usize, events: [u16; 5], k: usize) -> u16 {
-    let l = t.leading;
-    for n in 1..9 {
-        if lists::fills(t, l.count, i, n) && lowest(t, events, k, n) == 0 {
-            return n;
-        }
-    }
-    0
+// The first event that fits slot i, and comes before or is none of those that are chosen.
+pub(crate) fn first_free(t: Truth, i: usize, chosen: &[u16]) -> Option<u16> {
+    (1..9).find(|&n| {
+        lists::fills(t, t.leading.count, i, n) && lowest(t, chosen, Some(n)).is_none()
+    })
 }
 
 // The last event that fits slot i.
-fn last_fit(t: Truth, i: usize) -> u16 {
-    let l = t.leading;
-    let mut last: u16 = 0;
-    for n in 1..9 {
-        if lists::fills(t, l.count, i, n) {
-            last = n;
-        }
-    }
-    last
+fn last_fit(t: Truth, i: usize) -> Option<u16> {
+    (1..9)
+        .rev()
+        .find(|&n| lists::fills(t, t.leading.count, i, n))
 }
 
-// The lowest of the first k slots, counted from 1, whose event this one comes before or is; 0 where there is none.
-fn lowest(t: Truth, events: [u16; 5], k: usize, event: u16) -> usize {
-    for i in 0..5 {
-        if i < k && event != 0 && lists::comes_before(t, event, events[i]) {
-            return i + 1;
-        }
-    }
-    0
+// The lowest of the slots with these events, counted from 1, whose event this one comes before or is.
+fn lowest(t: Truth, chosen: &[u16], event: Option<u16>) -> Option<usize> {
+    let event = event?;
+    let i = chosen
+        .iter()
+        .position(|c| lists::comes_before(t, event, *c))?;
+    Some(i + 1)
 }

@@ -1,6 +1,7 @@
 // What was seen. The file stdin has the words for each count, a line each.
 use crate::plainly::Reason;
-use swap_search::{truth, words};
+use swap_search::counts::{add, add_if};
+use swap_search::words;
 
 pub const COUNTS: usize = 36;
 
@@ -49,26 +50,6 @@ pub const ON_DECIDED: usize = 34;
 
 pub const ON_WRONG: usize = 35;
 
-// So many more at a place.
-pub(crate) fn add(counts: &mut [u64; COUNTS], i: usize, n: u64) {
-    if i < COUNTS {
-        counts[i] = truth::sum(counts[i], n);
-    }
-}
-
-// One more at a place, where it is so.
-pub(crate) fn add_if(counts: &mut [u64; COUNTS], i: usize, so: bool) {
-    if so {
-        add(counts, i, 1);
-    }
-}
-
-// One more at a place, where it is not so.
-pub(crate) fn held(counts: &mut [u64; COUNTS], i: usize, so: bool) -> bool {
-    add_if(counts, i, !so);
-    so
-}
-
 pub(crate) fn log(counts: &mut [u64; COUNTS], accepted: bool, present: bool) {
     add(counts, LOGS, 1);
     add_if(counts, ACCEPTED, accepted);
@@ -80,23 +61,21 @@ pub(crate) fn log(counts: &mut [u64; COUNTS], accepted: bool, present: bool) {
 // The case, the slot, and the slot in whose way it stands.
 pub(crate) fn reason(counts: &mut [u64; COUNTS], r: Reason) {
     let is = is_chosen(r);
-    add_if(counts, NO_FIT, r.last == 0);
-    add_if(counts, BEFORE, r.last != 0 && !is);
-    add_if(counts, IS, r.last != 0 && is);
+    add_if(counts, NO_FIT, r.last.is_none());
+    add_if(counts, BEFORE, r.last.is_some() && !is);
+    add_if(counts, IS, r.last.is_some() && is);
     add(counts, SLOTS + r.slot % 6, 1);
-    add_if(counts, EARLIER + r.earlier % 5, r.earlier != 0);
+    if let Some(earlier) = r.earlier {
+        add(counts, EARLIER + earlier % 5, 1);
+    }
 }
 
 // Whether the last event that fits is the event of the lowest slot.
 fn is_chosen(r: Reason) -> bool {
-    let i = r.earlier;
-    if i < 1 {
-        return false;
+    match r.earlier {
+        Some(i) if i != 0 => r.last == r.events.get(i - 1).copied(),
+        _ => false,
     }
-    if 5 < i {
-        return false;
-    }
-    r.events[i - 1] == r.last
 }
 
 pub(crate) fn print(counts: &[u64; COUNTS]) {

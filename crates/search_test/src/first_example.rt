@@ -1,10 +1,9 @@
 // The events that a run names, held to the first list: "among all lists of events, in slot order, that satisfy the rule within the reported count, the one smallest at the first place
 // where they differ". All lists of numbers from 1 to the count are gone through in rising order, up to the first that satisfies the rule.
-use crate::tally;
 use crate::tally::{COUNTS, FIRST};
 use run::RunRefusal;
 use session::Verdict;
-use swap_search::lists;
+use swap_search::{counts, lists};
 use swap_search::truth::Truth;
 
 // Whether the run names the first list, where it says that there is a match.
@@ -28,13 +27,13 @@ fn named_first(t: Truth, count: usize, numbers: [u16; 5], counts: &mut [u64; COU
     let first = lists::first_from(t, size, count, 0);
     let list = first.and_then(|n| lists::list_of(n, count, size));
     let right = list == Some(numbers);
-    tally::add(counts, FIRST, 1);
-    tally::add_if(
+    counts::add(counts, FIRST, 1);
+    counts::add_if(
         counts,
         FIRST + 1,
         first.is_some_and(|n| another(t, count, n)),
     );
-    tally::add_if(counts, FIRST + 2, !right);
+    counts::add_if(counts, FIRST + 2, !right);
     right
 }
 

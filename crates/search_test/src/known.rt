@@ -1,16 +1,15 @@
 // Lists whose orders are counted without a search: seven marks, shared out among threads.
-use crate::tally;
 use crate::tally::{COUNTS, KNOWN};
 use plain::MOST;
-use swap_search::orders;
 use swap_search::orders::Question;
+use swap_search::{counts, orders};
 
 // The counts are 1; 7! / (4! 3!) = 35; 7! / (3! 2! 2!) = 210; 7! = 5040.
 pub(crate) fn run(queue: &mut [u32], seen: &mut [bool], counts: &mut [u64; COUNTS]) {
-    tally::add(counts, KNOWN, orders_of(queue, seen, 1));
-    tally::add(counts, KNOWN + 1, orders_of(queue, seen, 2));
-    tally::add(counts, KNOWN + 2, orders_of(queue, seen, 3));
-    tally::add(counts, KNOWN + 3, orders_of(queue, seen, 7));
+    counts::add(counts, KNOWN, orders_of(queue, seen, 1));
+    counts::add(counts, KNOWN + 1, orders_of(queue, seen, 2));
+    counts::add(counts, KNOWN + 2, orders_of(queue, seen, 3));
+    counts::add(counts, KNOWN + 3, orders_of(queue, seen, 7));
 }
 
 // How many orders are looked at for a slot that no event fits.

@@ -2,8 +2,8 @@
 // and they are as many. Whether one of them holds the pattern is held to what a run says.
 ghost use Rattle.std.specs.Prelude.{◌<◌};
 
+use crate::compare;
 use crate::tally::{COUNTS, LISTED};
-use crate::{compare, tally};
 use event::refusal::{Refusal, Refused};
 use order_rows::PLACES;
 use orders_log::OrdersRefusal;
@@ -11,7 +11,7 @@ use run::RunRefusal;
 use session::Verdict;
 use swap_search::orders::Question;
 use swap_search::truth::Truth;
-use swap_search::{orders, truth};
+use swap_search::{counts, orders, truth};
 
 // What was seen on the way: whether all went well, how many orders were given, and whether one holds the slots.
 #[derive(Clone, Copy)]
@@ -46,9 +46,9 @@ pub(crate) fn agree(
     let found = orders::all(queue, seen, q);
     let w = go_through(seen, log, q);
     orders::clear(queue, seen, found);
-    tally::add(counts, LISTED, w.given as u64);
-    tally::add_if(counts, LISTED + 1, w.holds);
-    tally::add_if(counts, LISTED + 4, refutes(seen, log, q));
+    counts::add(counts, LISTED, w.given as u64);
+    counts::add_if(counts, LISTED + 1, w.holds);
+    counts::add_if(counts, LISTED + 4, refutes(seen, log, q));
     let exact = w.given == found && w.holds == compare::matched(judged);
     let turned = turned_round(log, q, counts);
     held(counts, w.right && exact && turned)
@@ -64,7 +64,7 @@ fn refutes(seen: &[bool], log: &[u8], q: Question) -> bool {
 
 // Counts one more where it is not so.
 fn held(counts: &mut [u64; COUNTS], so: bool) -> bool {
-    tally::add_if(counts, LISTED + 3, !so);
+    counts::add_if(counts, LISTED + 3, !so);
     so
 }
 
@@ -163,7 +163,7 @@ fn turned_at(
     turned.swap(i, i + 1);
     let given = orders_log::next(log, &turned);
     let dependent = plain::dependent_places(q.events, i, i + 1);
-    tally::add_if(counts, LISTED + 2, dependent);
+    counts::add_if(counts, LISTED + 2, dependent);
     let refused = given == Err(OrdersRefusal::Orders(Refusal::NoOrder.at(0)));
     refused == dependent
 }

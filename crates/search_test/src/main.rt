@@ -17,7 +17,7 @@ use run::RunRefusal;
 use session::Verdict;
 use swap_search::samples::Sample;
 use swap_search::truth::Truth;
-use swap_search::{orders, samples};
+use swap_search::{counts, orders, samples};
 use tally::COUNTS;
 
 const LOGS: usize = 100000;
@@ -80,7 +80,7 @@ fn compared(
     tally::log(counts, read, t);
     let judged = run::run(pattern, log);
     let agreed = agree(pattern, log, t, read, judged);
-    tally::add_if(counts, tally::DISAGREEMENTS, !agreed);
+    counts::add_if(counts, tally::DISAGREEMENTS, !agreed);
     let first = first_example::agrees(judged, t, counts);
     let replayed = replays::agree(queue, seen, pattern, log, t, judged, counts);
     let listed = listed::agree(queue, seen, log, t, read, judged, counts);

@@ -1,10 +1,10 @@
 // Every pair of event numbers of a drawn log asked of the order query, and held to a plain computation of the chain, both ways round.
-use crate::tally;
 use crate::tally::{COUNTS, PAIRS};
 use event::refusal::{Refusal, Refused};
 use order_query::QueryRefusal;
 use plain::Leading;
 use relation::Relation;
+use swap_search::counts;
 
 // Numbers 0 to 8: no log has more than seven events.
 pub(crate) fn of(log: &[u8], l: Leading, counts: &mut [u64; COUNTS]) {
@@ -28,13 +28,13 @@ fn count(
 ) {
     let before = matches!(answer, Ok(Relation::Before));
     let after = matches!(answer, Ok(Relation::After));
-    tally::add(counts, PAIRS, 1);
-    tally::add_if(counts, PAIRS + 1, matches!(answer, Ok(Relation::Same)));
-    tally::add_if(counts, PAIRS + 2, before);
-    tally::add_if(counts, PAIRS + 3, after);
-    tally::add_if(counts, PAIRS + 4, matches!(answer, Ok(Relation::Free)));
-    tally::add_if(counts, PAIRS + 5, (before || after) && !direct);
-    tally::add_if(counts, PAIRS + 6, !right);
+    counts::add(counts, PAIRS, 1);
+    counts::add_if(counts, PAIRS + 1, matches!(answer, Ok(Relation::Same)));
+    counts::add_if(counts, PAIRS + 2, before);
+    counts::add_if(counts, PAIRS + 3, after);
+    counts::add_if(counts, PAIRS + 4, matches!(answer, Ok(Relation::Free)));
+    counts::add_if(counts, PAIRS + 5, (before || after) && !direct);
+    counts::add_if(counts, PAIRS + 6, !right);
 }
 
 // An answer that can be compared with another.

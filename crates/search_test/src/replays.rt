@@ -3,7 +3,7 @@ ghost use Rattle.std.specs.Prelude.{◌≤◌};
 
 use crate::grouped::SPACE;
 use crate::tally::{COUNTS, REPLAYS};
-use crate::{compare, grouped, tally};
+use crate::{compare, grouped};
 use event::refusal::{Refusal, Refused};
 use plain::Leading;
 use replay_log::Replayed;
@@ -12,7 +12,7 @@ use session::Verdict;
 use swap_search::orders::Question;
 use swap_search::patterns::Sketch;
 use swap_search::truth::Truth;
-use swap_search::{orders, truth};
+use swap_search::{counts, orders, truth};
 
 // What a replay call gave, and the bytes afterwards, of which a part was lent.
 #[derive(Clone, Copy)]
@@ -40,8 +40,8 @@ pub(crate) fn agree(
     let matched = read.is_ok() && t.present();
     let call = ask(pattern, log, size + size % 3);
     let short = ask(pattern, log, size.saturating_sub(1));
-    tally::add(counts, REPLAYS, 1);
-    tally::add_if(counts, REPLAYS + 1, matched);
+    counts::add(counts, REPLAYS, 1);
+    counts::add_if(counts, REPLAYS + 1, matched);
     let answered = held(counts, REPLAYS + 3, answers(call, t, read, judged));
     let written = held(counts, REPLAYS + 4, writes(call, matched, log, t));
     let refused = held(counts, REPLAYS + 5, refuses(short, t, read));
@@ -54,7 +54,7 @@ pub(crate) fn agree(
 
 // Counts one more where it is not so.
 fn held(counts: &mut [u64; COUNTS], i: usize, so: bool) -> bool {
-    tally::add_if(counts, i, !so);
+    counts::add_if(counts, i, !so);
     so
 }
 
@@ -122,7 +122,7 @@ fn shows(
 ) -> bool {
     let replay = plain::read(&c.buffer);
     let q = asked(t.leading, replay);
-    tally::add_if(counts, REPLAYS + 2, !orders::unswapped(q));
+    counts::add_if(counts, REPLAYS + 2, !orders::unswapped(q));
     let reached = held(counts, REPLAYS + 6, reaches(queue, seen, q));
     let holds = held(counts, REPLAYS + 7, holds(replay, t.sketch));
     let again = held(counts, REPLAYS + 8, again(pattern, c));

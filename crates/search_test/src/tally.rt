@@ -3,6 +3,7 @@ use crate::{locks, threads};
 use event::refusal::Refused;
 use plain::Leading;
 use swap_search::truth::Truth;
+use swap_search::counts::{add, add_if};
 use swap_search::{patterns, words};
 
 pub const COUNTS: usize = CHILDREN + THREADS;
@@ -55,20 +56,6 @@ const AGAIN: usize = 52;
 const ACTING: usize = 55;
 
 const CHILDREN: usize = ACTING + THREADS;
-
-// So many more at a place.
-pub(crate) fn add(counts: &mut [u64; COUNTS], i: usize, n: u64) {
-    if let Some(count) = counts.get_mut(i) {
-        *count = count.saturating_add(n);
-    }
-}
-
-// One more at a place, where it is so.
-pub(crate) fn add_if(counts: &mut [u64; COUNTS], i: usize, so: bool) {
-    if so {
-        add(counts, i, 1);
-    }
-}
 
 pub(crate) fn log(counts: &mut [u64; COUNTS], read: Result<usize, Refused>, t: Truth) {
     add(counts, LOGS, 1);

@@ -2,6 +2,7 @@
 // Used by test programs only.
 #![tactic(auto)]
 
+pub mod counts;
 pub mod lists;
 pub mod orders;
 pub mod patterns;
