@@ -3,8 +3,8 @@
 use crate::tally::{COUNTS, FIRST};
 use run::RunRefusal;
 use session::Verdict;
-use swap_search::{counts, lists};
 use swap_search::truth::Truth;
+use swap_search::{counts, lists};
 
 // Whether the run names the first list, where it says that there is a match.
 pub(crate) fn agrees(

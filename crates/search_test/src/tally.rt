@@ -2,8 +2,8 @@
 use crate::{locks, threads};
 use event::refusal::Refused;
 use plain::Leading;
-use swap_search::truth::Truth;
 use swap_search::counts::{add, add_if};
+use swap_search::truth::Truth;
 use swap_search::{patterns, words};
 
 pub const COUNTS: usize = CHILDREN + THREADS;
