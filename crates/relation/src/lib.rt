@@ -9,7 +9,7 @@ ghost use Rattle.relation.specs.Compared.{one_event, comes_before, compared};
 use clock::Stamp;
 
 // How the first of two events stands to the second.
-#[derive(Clone, Copy)]
+#[derive(Clone, Copy, PartialEq, Eq)]
 pub enum Relation {
     Same,
     Before,

@@ -13,7 +13,7 @@ pub(crate) fn of(log: &[u8], l: Leading, counts: &mut [u64; COUNTS]) {
     for first in 0..9 {
         for second in 0..9 {
             let answer = order_query::query(log, first, second);
-            let right = numbered(answer) == numbered(due(read, &before, first, second));
+            let right = answer == due(read, &before, first, second);
             count(counts, answer, direct(l, first, second), right);
         }
     }
@@ -35,12 +35,6 @@ fn count(
     counts::add_if(counts, PAIRS + 4, matches!(answer, Ok(Relation::Free)));
     counts::add_if(counts, PAIRS + 5, (before || after) && !direct);
     counts::add_if(counts, PAIRS + 6, !right);
-}
-
-// An answer that can be compared with another.
-// Kept: a relation has no equality of its own.
-fn numbered(answer: Result<Relation, QueryRefusal>) -> Result<u8, QueryRefusal> {
-    answer.map(|relation| relation as u8)
 }
 
 // The answer that is due.

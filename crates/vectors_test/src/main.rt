@@ -29,11 +29,8 @@ fn main() {
 
 fn all(lines: &[u8], space: &mut [u8], state: &mut [u8; rules::STATE]) {
     let mut head: usize = 0;
-    let mut at: usize = 0;
-    while at < lines.len() {
-        let end = console::find(lines, at, b'\n');
-        head = line(&lines[at..end], space, head, state);
-        at = end + 1;
+    for vector in lines.split(|b| *b == b'\n') {
+        head = line(vector, space, head, state);
     }
 }
 
