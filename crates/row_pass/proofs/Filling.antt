@@ -79,18 +79,18 @@ module _ {bytes : List ℕ} {from : ℕ} {past events : List Event} {state : Lis
       }
 
   -- the reading stops here
-  stopped : (stop : Stop) (after : List ℕ) → StateOf r.taken after → StopsAt bytes at r.taken stop → (stop ≡ Ok (Some at) → 0 < k) → FilledFrom bytes from past (filled_of events k stop after)
+  stopped : (stop : Stop) (after : List ℕ) → StateOf r.taken after → StopsAt bytes at r.taken stop → (stop ≡ Ok (Some at) → 0 < k) → FilledFrom bytes from past (filled_of events k stop) after
   stopped stop after h s some =
       record { to = at; taken = r.taken; steps = r.steps; events = r.are; many = length-take-le k events inside; state = h; stops = s; some = some }
 
-  pub ends : {outcome : Reading Event} {after : List ℕ} → StepAfter bytes r.taken at outcome after → outcome ≡ closed → FilledFrom bytes from past (filled_of events k (Ok None) after)
+  pub ends : {outcome : Reading Event} {after : List ℕ} → StepAfter bytes r.taken at outcome after → outcome ≡ closed → FilledFrom bytes from past (filled_of events k (Ok None)) after
   ends {after = after} s q = stopped (Ok None) after (subst (λ (o : Reading Event). StateOf (taken_then r.taken o) after) q s.holds) (at_end (sym s.is ∙ q)) not_full_end
 
   pub breaks : {outcome : Reading Event} {after : List ℕ} (x : Refused) → StepAfter bytes r.taken at outcome after → outcome ≡ refused_at (refusal_number x.reason) x.offset
-      → FilledFrom bytes from past (filled_of events k (Err x) after)
+      → FilledFrom bytes from past (filled_of events k (Err x)) after
   breaks {after = after} x s q = stopped (Err x) after (subst (λ (o : Reading Event). StateOf (taken_then r.taken o) after) q s.holds) (at_refusal (sym s.is ∙ q)) not_full_refusal
 
-  pub is_full : 0 < k → FilledFrom bytes from past (filled_of events k (Ok (Some at)) state)
+  pub is_full : 0 < k → FilledFrom bytes from past (filled_of events k (Ok (Some at))) state
   is_full some = stopped (Ok (Some at)) state r.holds full (λ e. some)
 
 -- ---- a reader after some steps
@@ -119,11 +119,11 @@ few_events : {bytes : List ℕ} {from to : ℕ} {past taken : List Event} → St
 few_events no_step l = l
 few_events {bytes} (one_step {at} {next} {taken} {e} s q) l = let room = (clear taken e (step_taken bytes taken at e next q).1).room in omega (arith, room)
 
-module _ {bytes state : List ℕ} {count at : ℕ} {past : List Event} {r : Filled} (g : Going bytes state count at past) (f : FilledFrom bytes at past r) where
+module _ {bytes state after : List ℕ} {count at : ℕ} {past : List Event} {r : Filled} (g : Going bytes state count at past) (f : FilledFrom bytes at past r after) where
   pub all_taken : length f.taken ≡ count + r.batch.size
   all_taken = ap length f.events ∙ length-append (reverse (events_of r.batch)) past ∙ ap (λ (n : ℕ). n + length past) (length-reverse (events_of r.batch) ∙ f.many) ∙ (let n = g.count in omega (arith, n))
 
-  pub gone_on : Going bytes r.state (count + r.batch.size) f.to f.taken
+  pub gone_on : Going bytes after (count + r.batch.size) f.to f.taken
   gone_on = record { row = going_on g.row f.steps; holds = f.state; count = sym all_taken }
 
   pub few : count ≤ events → count + r.batch.size ≤ events

@@ -56,8 +56,8 @@ module _ (n : ℕ) (before : List Session) (es : List Event) (r : RowHanded) (fe
       turned = rw row_is (get_d_map (λ s. handed_all s es) (take n before) k past_session past_session (rw size l))
 
 -- the events of a batch that was read from the log
-pub passed_on : {bytes : List ℕ} {at : ℕ} {past : List Event} {f : Filled} {n : ℕ} {before : List Session} {r : RowHanded} (first : List Session) → n ≤ most → length before ≡ places
-    → (g : FilledFrom bytes at past f) → FirstHanded (alone_through (events_of f.batch)) before n r → PassedBy n first (reverse past) before
+pub passed_on : {bytes after : List ℕ} {at : ℕ} {past : List Event} {f : Filled} {n : ℕ} {before : List Session} {r : RowHanded} (first : List Session) → n ≤ most → length before ≡ places
+    → (g : FilledFrom bytes at past f after) → FirstHanded (alone_through (events_of f.batch)) before n r → PassedBy n first (reverse past) before
     → PassedBy n first (reverse g.taken) r.sessions
 passed_on {past = past} {f} {n} {before} {r} first few size g h p =
     rw g.events (more_events n before (events_of f.batch) r few (omega (arith, few, size)) h first past p)

@@ -21,8 +21,8 @@ abbrev pub Stop : Type 0
 Stop = Result (Option ℕ) Refused
 
 -- so many of these events, and what the reading stopped at
-abbrev pub filled_of : List Event → ℕ → Stop → List ℕ → Filled
-filled_of events size stops state = record { batch = record { events = events; size = size }; stop = stops; state = state }
+abbrev pub filled_of : List Event → ℕ → Stop → Filled
+filled_of events size stops = record { batch = record { events = events; size = size }; stop = stops }
 
 -- the steps of a log from a place on, the events of past taken, the newest first: up to another place, and the events taken then
 pub data Steps (bytes : List ℕ) (from : ℕ) (past : List Event) : ℕ → List Event → Type 0 where
@@ -36,14 +36,14 @@ pub data StopsAt (bytes : List ℕ) (at : ℕ) (taken : List Event) : Stop → T
   at_end : step_after bytes taken at ≡ closed → StopsAt bytes at taken (Ok None)
   at_refusal : {r : Refused} → step_after bytes taken at ≡ refused_at (refusal_number r.reason) r.offset → StopsAt bytes at taken (Err r)
 
--- what is read from a place on: the events of the batch, and the state of the rules then; a full batch is not empty
-pub record FilledFrom (bytes : List ℕ) (from : ℕ) (past : List Event) (r : Filled) : Type 0 where
+-- what is read from a place on: the events of the batch, and the state of the rules afterwards; a full batch is not empty
+pub record FilledFrom (bytes : List ℕ) (from : ℕ) (past : List Event) (r : Filled) (after : List ℕ) : Type 0 where
   pub to : ℕ
   pub taken : List Event
   pub steps : Steps bytes from past to taken
   pub events : taken ≡ reverse (events_of r.batch) ++ past
   pub many : length (events_of r.batch) ≡ r.batch.size
-  pub state : StateOf taken r.state
+  pub state : StateOf taken after
   pub stops : StopsAt bytes to taken r.stop
   pub some : r.stop ≡ Ok (Some to) → 0 < r.batch.size
 

@@ -25,12 +25,11 @@ pub enum FileFault {
 // Where the reading of some events stopped: at the next place, with as many read as a batch holds; at the end of the log; or at a command that is refused.
 type Stop = Result<Option<usize>, Refused>;
 
-// Some events of a log, where the reading stopped, and the state of the rules then.
+// Some events of a log, and where the reading stopped.
 #[derive(Clone, Copy)]
 struct Filled {
     batch: Batch,
     stop: Stop,
-    state: [u8; rules::STATE],
 }
 
 // A log gone through: how it ended, and the sessions afterwards.
@@ -51,7 +50,7 @@ pub fn pass(sessions: [Session; PLACES], n: usize, log: &[u8]) -> Passed
     let mut taken: usize = 0;
     let mut at: usize = 0;
     loop {
-        let filled = fill(log, at, taken, state);
+        let filled = fill(log, at, taken, &mut state);
         let batch = filled.batch;
         held = row_batch::hand_batch(held, n, batch).sessions;
         let next = match filled.stop {
@@ -69,43 +68,40 @@ pub fn pass(sessions: [Session; PLACES], n: usize, log: &[u8]) -> Passed
                 };
             }
         };
-        state = filled.state;
         taken += batch.size;
         at = next;
     }
 }
 
-// Reads the events of a log from a place on, so many taken before it, until a batch is full.
-fn fill(log: &[u8], from: usize, before: usize, held: [u8; rules::STATE]) -> Filled
+// Reads the events of a log from a place on, so many taken before it, until a batch is full; the state of the rules goes along.
+fn fill(log: &[u8], from: usize, before: usize, state: &mut [u8; rules::STATE]) -> Filled
     requires { before ≤ event_limit }
-    ensures { (past : List Event) → StateOf past held → before ≡ length past → FilledFrom log.now from past result }
+    ensures { (past : List Event) → StateOf past state.old → before ≡ length past → FilledFrom log.now from past result state.new }
 {
     let none = Event {
         thread: 0,
         operation: Operation::Mark { mark: 0 },
     };
     let mut events = [none; BATCH];
-    let mut state = held;
     let mut at = from;
     for k in 0..BATCH {
-        let (event, next) = match event_log::step(log, at, &mut state, before + k) {
+        let (event, next) = match event_log::step(log, at, state, before + k) {
             Ok(Some(read)) => read,
-            Ok(None) => return stopped(events, k, Ok(None), state),
-            Err(refused) => return stopped(events, k, Err(refused), state),
+            Ok(None) => return stopped(events, k, Ok(None)),
+            Err(refused) => return stopped(events, k, Err(refused)),
         };
         events[k] = event;
         at = next;
     }
-    stopped(events, BATCH, Ok(Some(at)), state)
+    stopped(events, BATCH, Ok(Some(at)))
 }
 
 // The events read so far, and what the reading stopped at.
-fn stopped(events: [Event; BATCH], size: usize, stop: Stop, state: [u8; rules::STATE]) -> Filled
-    ensures { result ≡ filled_of events size stop state }
+fn stopped(events: [Event; BATCH], size: usize, stop: Stop) -> Filled
+    ensures { result ≡ filled_of events size stop }
 {
     Filled {
         batch: Batch { events, size },
         stop,
-        state,
     }
 }
