@@ -112,16 +112,14 @@ pub fn read_opened<F: Read + Drop>(file: Option<F>, space: &mut [u8]) -> usize
     read_full(&mut file, space)
 }
 
-// Reads until the space is full, the file ends or a read fails, and answers how many bytes it put at the start of the space.
+// Reads until the space is full, the file ends or a read fails, and answers how many bytes it put at the start of the space. What is left of a full
+// space has room for no byte.
 fn read_full(file: &mut impl Read, space: &mut [u8]) -> usize
     ensures { IsPrefixLen result space.new }
 {
     let mut done = 0;
-    while done < space.len() {
-        match file.read(&mut space[done..]) {
-            Ok(0) | Err(_) => break,
-            Ok(n) => done += n,
-        }
+    while let Ok(n @ 1..) = file.read(&mut space[done..]) {
+        done += n;
     }
     done
 }

@@ -66,6 +66,7 @@ fn through(s: Session, events: &[Event]) -> (Result<(), Refusal>, Session)
 }
 
 // Lends the first n of some sessions held by value as a row, for the events of a batch.
+// Kept: a twin of `session_row::hand_first`, which says why.
 pub fn hand_batch(sessions: [Session; PLACES], n: usize, b: Batch) -> RowHanded
     requires { n ≤ places }
     ensures { FirstHanded (alone_through (events_of b)) sessions n result }

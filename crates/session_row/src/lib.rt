@@ -99,6 +99,8 @@ fn one_refused(refused: Option<RowRefused>, i: usize, reason: Refusal) -> RowRef
 }
 
 // Lends the first n of some sessions held by value as a row, for one event.
+// Kept: `row_batch::hand_batch` does the same; one function over a closure for both proves, but is longer than the lines they share, and each of the two
+// then needs an answer by hand.
 pub fn hand_first(sessions: [Session; PLACES], n: usize, e: Event) -> RowHanded
     requires { n ≤ places }
     ensures { FirstHanded (alone_with e) sessions n result }
