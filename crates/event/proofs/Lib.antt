@@ -1,5 +1,4 @@
 pub mod Tests
-pub mod Tags
 pub mod InRange
 pub mod OneSlot
 pub mod Updated

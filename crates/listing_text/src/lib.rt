@@ -18,6 +18,7 @@ use session::Verdict;
 pub const NO_MATCH: [u8; 9] = *b"no match\n";
 
 // Writes the listing of a pattern and a log at the start of a lent buffer.
+#[tactic(auto, using(page::proofs::PutIn::put_in))]
 pub fn write(pattern: &[u8], log: &[u8], buffer: &mut [u8]) -> Result<usize, Refused>
     ensures { ListedIn pattern.now log.now buffer.old buffer.new result }
 {
@@ -123,6 +124,7 @@ fn operation_text(p: Page, op: Operation) -> Page
     }
 }
 
+#[tactic(auto, unfolding(crate::specs::Text::height_text), using(height::proofs::Tenths::held_is))]
 fn height_text(p: Page, mm: i32) -> Page
     ensures { result ≡ onto p (height_text mm) }
 {

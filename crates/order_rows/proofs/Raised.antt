@@ -7,7 +7,7 @@ use mathlib.Core.List.{List, [], ◌∷◌, ◌++◌}
 use native.Mathlib.Omega.{arith}
 use lib.ListN.{length, get_or, take, drop, length-append, take-append-drop}
 use lib.Seq.{length-take-le}
-use Rattle.std.specs.Prelude.{Some, None}
+use Rattle.std.specs.Prelude.{Some}
 use Rattle.trace.proofs.Lists.{filter}
 use Rattle.trace.proofs.Runs.{run}
 use Rattle.enumeration.specs.Orders.{NextAmong, next}
@@ -33,10 +33,6 @@ module _ (dep : ℕ → ℕ → Bool) (o : List ℕ) (p : ℕ) (l : p < length o
   raised_here : (cs : List ℕ) → choices ≡ cs → (z : ℕ) → Some z ≡ least_of cs → next_order (length o) dep (drop p o) ≡ some (z ∷ refill (length o) (drop p o) z)
   raised_here [] e z f = absurd (let h : ⊥ = cc in h)
   raised_here (c ∷ cs) e z f = let g : z ≡ c = cc in next_here ∙ ap (with_raised (length o) dep (drop p o)) e ∙ rw g
-
-  pub none_here : (cs : List ℕ) → choices ≡ cs → None ≡ least_of cs → next_order (length o) dep (drop p o) ≡ none
-  none_here [] e f = next_here ∙ ap (with_raised (length o) dep (drop p o)) e
-  none_here (c ∷ cs) e f = absurd (let h : ⊥ = cc in h)
 
   module _ (z : ℕ) (least : Some z ≡ least_of choices) where
     pub next_whole : next_order (length o) dep o ≡ some (take p o ++ (z ∷ refill (length o) (drop p o) z))

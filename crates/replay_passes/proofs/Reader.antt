@@ -13,7 +13,7 @@ use Rattle.command.specs.Reading.{Reading, command, closed, refused, event_at, d
 use Rattle.command.proofs.Held.{was_taken, was_closed}
 use Rattle.command.proofs.Inversion.{Found, decode_found, goes_on_lem, not_closed}
 use Rattle.event_log.specs.Leading.{Leading}
-use Rattle.event_log.proofs.Leading.{calls_lead, Midway, past_it, past_to, within_limits_lem}
+use Rattle.event_log.proofs.Leading.{calls_lead, Midway, past_it, past_to}
 use Rattle.passes.specs.Passes.{Leads}
 use Rattle.replay_passes.specs.Copies.{ReadAs}
 
@@ -44,9 +44,6 @@ module _ {bytes : List ℕ} where
 
       pub onward : Ahead bytes es (gone ++ (e ∷ [])) next
       onward = record { midway = past_it a.midway left e next q; ends = ap (read_event bytes) (past_to a.midway left e next q) ∙ a.ends }
-
-      pub in_limits : range_refusal (slot_of e) ≡ 0
-      in_limits = within_limits_lem a.midway left e next q
 
     pub length_whole : length es ≡ length gone + length a.midway.rest
     length_whole = ap length a.midway.whole ∙ length-append gone a.midway.rest

@@ -76,13 +76,6 @@ told_before (suc k) (suc m) t i =
     counted true q = rw (eqb-true t.count 0 q)
     counted false q = rw (add-one t.count, add-one (suc t.count))
 
--- no more refuse than answer
-at_most : (ks : List ℕ) → how_many_refused ks ≤ length ks
-unfolding how_many_refused
-at_most [] = omega arith
-at_most (zero ∷ ks) = let h = at_most ks in omega (arith, h)
-at_most (suc k ∷ ks) = let h = at_most ks in omega (arith, h)
-
 -- with none refusing, the place and the number are 0
 none_refused : (ks : List ℕ) → how_many_refused ks ≡ 0 → (lowest ks ≡ 0) × (number_there ks ≡ 0)
 unfolding how_many_refused lowest number_there
@@ -178,14 +171,6 @@ module _ {K : Type 0} (alone : K → Alone K) where
             ∙ ap (before (alone s).number) (next i row (le_of_suc-le-suc h))
             ∙ told_before (alone s).number (alone (get_or row i past)).number (tally_to i row) i
             ∙ ap (λ (t : RowNumbers). tally_with t (alone (get_or row i past)).number (suc i)) (sym (one_before (alone s).number (numbers (take i row))))
-
-  turns : (i : ℕ) (row : List K) → length (numbers (take i row)) ≤ i
-  turns zero row = omega arith
-  turns (suc i) [] = omega arith
-  turns (suc i) (s ∷ row) = let h = turns i row in omega (arith, h)
-
-  pub count_to : (i : ℕ) (row : List K) → (tally_to i row).count ≤ i
-  count_to i row = let h = at_most (numbers (take i row)) in let g = turns i row in omega (arith, h, g)
 
   up_to_all : (row : List K) → up_to (length row) row ≡ map (λ s. (alone s).after) row
   up_to_all [] = refl
