@@ -1,8 +1,7 @@
 // The numbers that a program is given as arguments.
 #![tactic(auto)]
 
-ghost use Rattle.std.specs.Prelude.{◌+◌, ◌-◌, ◌*◌, SomeIff};
-ghost use Rattle.io.specs.Counts.{IsPrefixLen};
+ghost use Rattle.std.specs.Prelude.{◌+◌, ◌-◌, ◌*◌, ◌≤◌, length, SomeIff, IfSome};
 ghost use Rattle.arguments.specs.Numerals.{Extends, NumberGiven, PairGiven};
 
 use std::env::FillError;
@@ -51,14 +50,14 @@ pub fn pair_of(given: usize, first: &[u8], second: &[u8]) -> Option<(u64, u64)>
 }
 
 // The two numbers that this program was started with. What the system gives is assumed and not proved, and no contract can say it.
-// An argument longer than its space comes back with length 0, which is no number, as it must be.
+// An argument longer than its space is no number, as it must be.
 pub fn given_pair(rt: &impl Env) -> Option<(u64, u64)> {
     let given = arg_count(rt).saturating_sub(1);
     let mut first = [0u8; FIGURES];
     let mut second = [0u8; FIGURES];
-    let m = arg(rt, 1, &mut first);
-    let n = arg(rt, 2, &mut second);
-    pair_of(given, &first[..m], &second[..n])
+    let m = arg(rt, 1, &mut first)?;
+    let n = arg(rt, 2, &mut second)?;
+    pair_of(given, m, n)
 }
 
 // How many arguments this program was started with, its own name among them.
@@ -68,9 +67,10 @@ pub fn arg_count(rt: &impl Env) -> usize {
         .unwrap_or(usize::MAX)
 }
 
-// Puts the n-th argument at the start of a space, and answers its length: 0 where there is none, or where it is longer than the space.
-pub fn arg(rt: &impl Env, n: usize, space: &mut [u8]) -> usize
-    ensures { IsPrefixLen result space.new }
+// The n-th argument, put at the start of a space: none where there is no such argument, or where it is longer than the space.
+pub fn arg<'a>(rt: &impl Env, n: usize, space: &'a mut [u8]) -> Option<&'a [u8]>
+    ensures { IfSome result (λ given. length given.now ≤ length space.old) }
 {
-    rt.arg(n, space).unwrap_or(0)
+    let size = rt.arg(n, space).ok()?;
+    Some(&space[..size])
 }
