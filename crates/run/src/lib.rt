@@ -18,6 +18,7 @@ pub enum RunRefusal {
 }
 
 // Judges a whole log by a pattern.
+#[tactic(auto, using(crate::proofs::Verdict::good_pattern, crate::proofs::Verdict::refused_log))]
 pub fn run(pattern: &[u8], log: &[u8]) -> Result<Verdict, RunRefusal>
     ensures { RunOf pattern.now log.now (judged_is result) }
 {
