@@ -25,6 +25,7 @@ fn event_at(events: &[Event; PLACES], k: u8) -> Event
 }
 
 // At places beyond a log's events.
+// Kept: fixed memory, and the definition of an order goes by an event for each number: with Options the test for dependence would have four cases.
 pub fn no_event() -> Event
     ensures { result ≡ no_event }
 {

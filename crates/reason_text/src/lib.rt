@@ -86,6 +86,7 @@ fn way_line(p: Page, same: bool, earlier: usize) -> Page
 }
 
 // The event of a slot, counted from 1; 0 where there is no such slot.
+// Kept: the text of a cause is defined for every number of a slot, by 0 where there is none; an Option would be taken apart into that 0 at the one call.
 fn slot_event(events: [u16; event::SLOTS], i: usize) -> usize
     ensures { result ≡ slot_event events i }
 {

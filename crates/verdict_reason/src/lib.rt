@@ -81,6 +81,7 @@ fn cause_of(log: &[u8], n: usize, slot: Slot, k: usize, numbers: [u16; event::SL
 }
 
 // The first of k stamps that counts so many events of a thread, from 1; 0 where none does.
+// Kept: in the one call there always is one, and `Lowest`, the definition that the count of a run goes by too, has 0 for none.
 fn lowest(stamps: [Stamp; event::SLOTS], thread: u8, place: u16, k: usize) -> usize
     requires { k ≤ slot_limit }
     ensures { Lowest (counts_at stamps thread place) k result }
