@@ -34,6 +34,7 @@ pub struct OrderRow {
 
 // The first order of the log.
 #[unsafe(no_mangle)]
+#[tactic(auto, using(crate::proofs::Numbers::said_in_numbers))]
 pub extern "C" fn bilguzor_first_order(log: &[u8]) -> OrderRow
     ensures { SaysSo order_numbers (FirstGives log.now) result }
 {
@@ -42,6 +43,7 @@ pub extern "C" fn bilguzor_first_order(log: &[u8]) -> OrderRow
 
 // The order of the log after a given one, which has eight places, 0 beyond the log's events.
 #[unsafe(no_mangle)]
+#[tactic(auto, using(crate::proofs::Numbers::said_in_numbers))]
 pub extern "C" fn bilguzor_next_order(log: &[u8], order: &[u8]) -> OrderRow
     ensures { SaysSo order_numbers (NextGives log.now order.now) result }
 {

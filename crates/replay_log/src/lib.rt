@@ -17,6 +17,7 @@ pub struct Replayed {
 
 // Judges a whole log by a pattern. On a match the replay log is written at the start of the lent buffer, and in every other case the buffer stays as it was:
 // without one, where a run refuses the pattern or the log, and for 15, where the buffer has fewer bytes than the log.
+#[tactic(auto, using(crate::proofs::Calling::refused_alike, crate::proofs::Calling::short_of_it, crate::proofs::Calling::no_match_shown, crate::proofs::Calling::replay_written))]
 pub fn write(pattern: &[u8], log: &[u8], buffer: &mut [u8]) -> Result<Replayed, RunRefusal>
     ensures { ReplayOf pattern.now log.now buffer.old (judged_is (run_part result)) (length_part result) buffer.new }
 {
