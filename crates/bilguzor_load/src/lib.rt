@@ -5,6 +5,7 @@ ghost use Rattle.std.specs.Prelude.{◌≡◌};
 ghost use Rattle.load_log.specs.Load.{loading, loaded};
 ghost use Rattle.bilguzor_load.specs.LoadNumbers.{load_numbers};
 
+// Kept: the C interface gives a refusal as a number, and a length beside it.
 // What became of a load: number 0 where it is written, and how many bytes it has.
 #[repr(C)]
 #[derive(Clone, Copy)]

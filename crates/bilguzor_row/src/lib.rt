@@ -10,6 +10,7 @@ use bilguzor::Parts;
 use event::refusal::Refusal;
 use session_row::RowRefusal;
 
+// Kept: the C interface gives and takes numbers.
 // An event in numbers, whatever they are.
 #[repr(C)]
 #[derive(Clone, Copy)]

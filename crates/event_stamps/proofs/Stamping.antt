@@ -1,10 +1,10 @@
 -- One pass that keeps the stamps of the events of given numbers.
 -- Assumes nothing.
-use Prim.Native.Nat.{ℕ, ◌+◌, ◌≤◌, ◌<◌}
+use Prim.Native.Nat.{ℕ, zero, suc, ◌+◌, ◌≤◌, ◌<◌}
 use native.Mathlib.Decide.{ℕ_discrete}
 use native.Mathlib.Omega.{arith}
 use mathlib.Core.Path.{◌≡◌, refl, sym, ap, subst, ◌∙◌}
-use mathlib.Core.Bool.{cond}
+use mathlib.Core.Bool.{Bool, true, false, cond, ◌||◌, true≢false}
 use mathlib.Core.List.{List, [], ◌∷◌, ◌++◌}
 use lib.Dec.{eqb}
 use lib.ListN.{length, get_or, length-append}
@@ -20,7 +20,18 @@ use Rattle.clock.specs.Arrivals.{StampOf, ClocksOf, Arrived}
 use Rattle.passes.proofs.Passes.{stamp_stays}
 use Rattle.event_log.proofs.Leading.{Midway, at_start, past_it, within_limits_lem}
 use Rattle.passes.specs.Passes.{Leads}
-use Rattle.event_stamps.specs.EventStamps.{no_entry, with_stamp, StampsTo}
+use Rattle.event_stamps.specs.EventStamps.{no_entry, is_one_of, with_stamp, StampsTo}
+
+none_of : (numbers : List ℕ) (i n : ℕ) → is_one_of n numbers i ≡ false → (j : ℕ) → j < n → eqb (get_or numbers j 0) i ≡ false
+unfolding is_one_of
+none_of numbers i zero h j l = absurd (omega arith)
+none_of numbers i (suc n) h j l = go (eqb (get_or numbers n 0) i) refl h (ℕ_discrete j n) (λ u v. none_of numbers i n u j v)
+  where
+    go : (b : Bool) → eqb (get_or numbers n 0) i ≡ b → b || is_one_of n numbers i ≡ false → Dec (j ≡ n)
+        → (is_one_of n numbers i ≡ false → j < n → eqb (get_or numbers j 0) i ≡ false) → eqb (get_or numbers j 0) i ≡ false
+    go true e h d ih = absurd (true≢false h)
+    go false e h (yes z) ih = rw z e
+    go false e h (no d) ih = ih h (omega arith)
 
 -- i events gone past, which the clocks hold, and the stamps of those of them that have one of the numbers
 pub record Stamping (bytes : List ℕ) (es : List Event) (numbers clocks : List ℕ) (stamps : List Stamp) (at i : ℕ) : Type 0 where
@@ -76,6 +87,11 @@ module _ {bytes : List ℕ} {es : List Event} {m : ℕ} (ls : Leads bytes es m) 
       stamped_now stamp after arrives =
           stamped_on stamp after arrives (with_stamp (i + 1) stamp numbers stamps) (updated_length no_entry _ stamps 0 slot_limit ∙ s.whole)
           (λ j l. updated_first no_entry _ stamps slot_limit j l (let w = s.whole in omega arith))
+
+      -- an event that has none of the numbers leaves the stamps as they are
+      pub passed_now : (stamp : Stamp) (after : List ℕ) → ((log : List Event) → ClocksOf log clocks → length log < events → range_refusal (slot_of e) ≡ 0 → Arrived log e stamp after)
+          → is_one_of slot_limit numbers (i + 1) ≡ false → Stamping bytes es numbers after stamps next (i + 1)
+      passed_now stamp after arrives f = stamped_on stamp after arrives stamps s.whole (λ j l. rw (none_of numbers (i + 1) slot_limit f j l))
 
     -- the pass has come to event number n
     pub all_stamped : {n : ℕ} → n ≤ i → StampsTo es numbers n stamps

@@ -1,6 +1,6 @@
 -- The stamps of the events that have given numbers, a place for each slot.
 -- Assumes nothing.
-use Rattle.std.specs.Prelude.{ℕ, ◌≤◌, ◌<◌, cond, List, [], eqb, get_or}
+use Rattle.std.specs.Prelude.{ℕ, zero, suc, ◌≤◌, ◌<◌, Bool, false, cond, ◌||◌, List, [], eqb, get_or}
 use Rattle.event.specs.declared.Event.{Event}
 use Rattle.event.specs.Limits.{slots as slot_limit}
 use Rattle.event.specs.Updated.{updated}
@@ -10,6 +10,11 @@ use Rattle.clock.specs.Arrivals.{StampOf}
 -- what is read beyond the end of a row of stamps
 abbrev pub no_entry : Stamp
 no_entry = record { at = [] }
+
+-- whether one of the first n numbers is i
+unfoldable pub is_one_of : ℕ → List ℕ → ℕ → Bool
+is_one_of zero numbers i = false
+is_one_of (suc n) numbers i = eqb (get_or numbers n 0) i || is_one_of n numbers i
 
 -- the stamps, with that of event number i for each slot that has this number
 abbrev pub with_stamp : ℕ → Stamp → List ℕ → List Stamp → List Stamp

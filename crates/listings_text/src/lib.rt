@@ -42,6 +42,7 @@ pub fn nothing() -> Watched
     }
 }
 
+// Kept: a number below 16 is asked for, as each caller has it from its loop; a type for it would be made and taken apart at each call.
 // A file that was opened, the one after those before it: its pattern is what was read of it.
 pub fn add(mut w: Watched, k: usize, pattern: &[u8]) -> Watched
     requires { k < most }

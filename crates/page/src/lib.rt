@@ -20,6 +20,7 @@ pub const SPACE: usize = LONGEST + 1;
 pub const ROOM: usize = 1024;
 
 // The text under way: its bytes, and how many they are.
+// Kept: fixed memory; and no Display, whose text no contract knows, where each text is promised to the byte.
 #[derive(Clone, Copy)]
 pub struct Page {
     pub bytes: [u8; ROOM],
