@@ -27,14 +27,22 @@ pub fn count(name: &[u8], n: u64) {
     text(b"\n");
 }
 
-pub fn refusal(r: Refused) {
-    numbered(b"refused ", u64::from(r.reason.number()));
-    numbered(b" at ", r.offset as u64);
+pub fn refusal(k: u8, offset: usize) {
+    numbered(b"refused ", u64::from(k));
+    numbered(b" at ", offset as u64);
 }
 
-pub fn pattern_refusal(r: Refused) {
+pub fn refused(r: Refused) {
+    refusal(r.reason.number(), r.offset);
+}
+
+pub fn pattern_refusal(k: u8, offset: usize) {
     text(b"pattern ");
-    refusal(r);
+    refusal(k, offset);
+}
+
+pub fn pattern_refused(r: Refused) {
+    pattern_refusal(r.reason.number(), r.offset);
 }
 
 // The hexadecimal digit of the low four bits.

@@ -2,7 +2,7 @@
 ghost use Rattle.std.specs.Prelude.{◌≡◌};
 ghost use Rattle.event.specs.Refusals.{refusal_number};
 
-// The reasons, in the order in which they are looked for; each has the number that its refusal returns.
+// The reasons, in the order of their numbers: each has the number that its refusal returns.
 #[derive(Clone, Copy, PartialEq, Eq)]
 pub enum Refusal {
     EmptyPattern = 1,

@@ -14,6 +14,7 @@ pub fn step(state: u32) -> u32
 }
 
 // The low 32 bits of a product.
+// Kept: a wrapping add over a helper for the product is the form that the step is to have.
 fn wrapping_product(a: u32, b: u32) -> u32
     ensures { result ≡ a * b % 2 ^ 32 }
 {

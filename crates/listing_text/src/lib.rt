@@ -47,8 +47,8 @@ pub fn verdict(p: Page, judged: Result<Verdict, RunRefusal>, log: &[u8]) -> Page
 {
     match judged {
         Ok(verdict) => found(p, verdict, log),
-        Err(RunRefusal::Pattern(refused)) => p.text(b"pattern ").refusal(refused),
-        Err(RunRefusal::Log(refused)) => p.refusal(refused),
+        Err(RunRefusal::Pattern(refused)) => p.text(b"pattern ").refused(refused),
+        Err(RunRefusal::Log(refused)) => p.refused(refused),
     }
 }
 

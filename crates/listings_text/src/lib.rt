@@ -130,7 +130,7 @@ fn pattern_refused(p: Page, refused: Refused, end: Result<(), FileFault>) -> Pag
 {
     match end {
         Err(FileFault::TooLong) => p.too_long(),
-        _ => p.text(b"pattern ").refusal(refused),
+        _ => p.text(b"pattern ").refused(refused),
     }
 }
 
@@ -143,7 +143,7 @@ fn sought(p: Page, s: Session, end: Result<(), FileFault>) -> Page
     match end {
         Ok(()) => found_line(p, s),
         Err(FileFault::TooLong) => p.too_long(),
-        Err(FileFault::Refused(refused)) => p.refusal(refused),
+        Err(FileFault::Refused(refused)) => p.refused(refused),
     }
 }
 

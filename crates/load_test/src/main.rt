@@ -101,7 +101,7 @@ fn said(written: Result<usize, Refused>) -> usize {
         }
         Err(refused) => {
             console::text(b": ");
-            console::refusal(refused);
+            console::refused(refused);
             0
         }
     }
@@ -119,7 +119,7 @@ fn read(space: &[u8], size: usize) {
         }
         Err(refused) => {
             console::text(b", as a log ");
-            console::refusal(refused);
+            console::refused(refused);
         }
     }
 }

@@ -39,7 +39,7 @@ fn line(made: Result<usize, LoadError>) -> Page
     let p = page::empty();
     match made {
         Ok(size) => p.number(size).text(b" bytes\n"),
-        Err(LoadError::Refused(r)) => p.refusal(r),
+        Err(LoadError::Refused(r)) => p.refused(r),
         Err(LoadError::Usage) => p.text(b"usage: load SEED COUNT\n"),
     }
 }

@@ -39,7 +39,7 @@ fn answer_line(p: Page, answer: Result<Relation, QueryRefusal>) -> Page
 {
     match answer {
         Ok(relation) => relation_line(p, relation),
-        Err(QueryRefusal::Log(r) | QueryRefusal::Query(r)) => p.refusal(r),
+        Err(QueryRefusal::Log(r) | QueryRefusal::Query(r)) => p.refused(r),
     }
 }
 

@@ -48,7 +48,7 @@ fn line(given: Given) -> Page
     match given {
         Ok(Some(row)) => row_line(&row),
         Ok(None) => page::empty(),
-        Err(OrdersRefusal::Log(r) | OrdersRefusal::Orders(r)) => page::empty().refusal(r),
+        Err(OrdersRefusal::Log(r) | OrdersRefusal::Orders(r)) => page::empty().refused(r),
     }
 }
 

@@ -75,13 +75,19 @@ impl Page {
     }
 
     #[tactic(auto, using(crate::proofs::Onto::onto_append))]
-    pub fn refusal(self, r: Refused) -> Page
+    pub fn refusal(self, number: u8, offset: usize) -> Page
+        ensures { result ≡ onto self (refusal_line number offset) }
+    {
+        self.word(b"refused ", number as usize)
+            .word(b" at ", offset)
+            .text(b"\n")
+    }
+
+    // The refusal's number and offset.
+    pub fn refused(self, r: Refused) -> Page
         ensures { result ≡ onto self (refusal_line (refusal_number r.reason) r.offset) }
     {
-        let number = r.reason.number() as usize;
-        self.word(b"refused ", number)
-            .word(b" at ", r.offset)
-            .text(b"\n")
+        self.refusal(r.reason.number(), r.offset)
     }
 
     pub fn too_long(self) -> Page

@@ -54,7 +54,7 @@ pub(crate) fn is_due(
     match read {
         Ok(events) => {
             let due = if t.present() { t.count(events) } else { None };
-            judged.is_ok_and(|verdict| verdict.found == due)
+            judged.is_ok_and(|verdict| verdict.found == due && due.is_some() == t.present())
         }
         Err(refused) => judged.is_err_and(|refusal| refusal == RunRefusal::Log(refused)),
     }

@@ -210,7 +210,7 @@ fn alone(s: Session, k: usize, n: usize, b: Batch) -> Session {
 
 fn each_taken(s: Session, b: Batch) -> Session {
     let mut held = s;
-    for e in b.as_slice() {
+    for e in b.events.iter().take(b.size) {
         held = held.take(*e).session;
     }
     held

@@ -40,7 +40,7 @@ pub(crate) fn agree(
     counts: &mut [u64; COUNTS],
 ) -> bool {
     if let Err(refused) = read {
-        return held(counts, refuses(log, refused));
+        return counts::held(counts, LISTED + 3, refuses(log, refused));
     }
     let q = truth::question(t.leading, t.sketch, t.leading.count);
     let found = orders::all(queue, seen, q);
@@ -51,7 +51,7 @@ pub(crate) fn agree(
     counts::add_if(counts, LISTED + 4, refutes(seen, log, q));
     let exact = w.given == found && w.holds == compare::matched(judged);
     let turned = turned_round(log, q, counts);
-    held(counts, w.right && exact && turned)
+    counts::held(counts, LISTED + 3, w.right && exact && turned)
 }
 
 // Whether the first order is held to be wrong once the search has forgotten it, so that the comparison is seen to fail.
@@ -60,12 +60,6 @@ fn refutes(seen: &[bool], log: &[u8], q: Question) -> bool {
         return true;
     };
     !one_more(NONE_GIVEN, seen, None, row, q).right
-}
-
-// Counts one more where it is not so.
-fn held(counts: &mut [u64; COUNTS], so: bool) -> bool {
-    counts::add_if(counts, LISTED + 3, !so);
-    so
 }
 
 // Whether both calls refuse the log as reading it does.

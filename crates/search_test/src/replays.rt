@@ -42,20 +42,14 @@ pub(crate) fn agree(
     let short = ask(pattern, log, size.saturating_sub(1));
     counts::add(counts, REPLAYS, 1);
     counts::add_if(counts, REPLAYS + 1, matched);
-    let answered = held(counts, REPLAYS + 3, answers(call, t, read, judged));
-    let written = held(counts, REPLAYS + 4, writes(call, matched, log, t));
-    let refused = held(counts, REPLAYS + 5, refuses(short, t, read));
+    let answered = counts::held(counts, REPLAYS + 3, answers(call, t, read, judged));
+    let written = counts::held(counts, REPLAYS + 4, writes(call, matched, log, t));
+    let refused = counts::held(counts, REPLAYS + 5, refuses(short, t, read));
     let right = answered && written && refused;
     if !matched {
         return right;
     }
     shows(queue, seen, pattern, t, call, counts) && right
-}
-
-// Counts one more where it is not so.
-fn held(counts: &mut [u64; COUNTS], i: usize, so: bool) -> bool {
-    counts::add_if(counts, i, !so);
-    so
 }
 
 // Asks for the replay in the first `room` of 64 bytes AA.
@@ -123,9 +117,9 @@ fn shows(
     let replay = plain::read(&c.buffer);
     let q = asked(t.leading, replay);
     counts::add_if(counts, REPLAYS + 2, !orders::unswapped(q));
-    let reached = held(counts, REPLAYS + 6, reaches(queue, seen, q));
-    let holds = held(counts, REPLAYS + 7, holds(replay, t.sketch));
-    let again = held(counts, REPLAYS + 8, again(pattern, c));
+    let reached = counts::held(counts, REPLAYS + 6, reaches(queue, seen, q));
+    let holds = counts::held(counts, REPLAYS + 7, holds(replay, t.sketch));
+    let again = counts::held(counts, REPLAYS + 8, again(pattern, c));
     reached && holds && again
 }
 

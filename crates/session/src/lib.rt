@@ -19,6 +19,7 @@ use event::{Event, Slot, SlotOperation};
 use event_log::Pattern;
 
 // The pattern, what is kept of the events taken, how many they are, and the count of the match, 0 without one.
+// Kept: a number and not an Option, as C lends it.
 #[derive(Clone, Copy)]
 pub struct Session {
     pub pattern: Pattern,
@@ -129,7 +130,8 @@ impl Session {
 
 // Hands one event to a session whose parts are lent. A refused one leaves them as they were.
 // Of the pattern it takes the thread of each slot, which slots the event fits, and how many slots there are.
-// Kept: the parts are five parameters, as the C interface lends them by separate pointers; what is taken of the pattern is three, as the table is offered them so.
+// Kept: the parts are five parameters, as the C interface lends them by separate pointers; and what is taken of the pattern is three, as a caller in C has of it
+// numbers alone, from which each is made.
 pub fn hand(
     state: &mut [u8; rules::STATE],
     clocks: &mut [u16; clock::CLOCKS],

@@ -3,7 +3,7 @@ use event::{Slot, SlotOperation};
 use plain::Leading;
 
 // The slots in numbers, `size` of them, and the last number drawn.
-// Kept: fixed memory.
+// Kept: fixed memory; the slots of a pattern drawn, and how many they are.
 #[derive(Clone, Copy)]
 pub struct Sketch {
     pub slots: [u32; 5],

@@ -62,7 +62,7 @@ fn show_event_at(read: Reading<Event>) -> Option<usize> {
             return Some(next);
         }
         Ok(None) => console::text(b"end"),
-        Err(refused) => console::refusal(refused),
+        Err(refused) => console::refused(refused),
     }
     None
 }
@@ -74,7 +74,7 @@ fn show_slot_at(read: Reading<Slot>) -> Option<usize> {
             return Some(next);
         }
         Ok(None) => console::text(b"end"),
-        Err(refused) => console::pattern_refusal(refused),
+        Err(refused) => console::pattern_refused(refused),
     }
     None
 }
@@ -117,7 +117,7 @@ pub(crate) fn end(at: usize, room: usize) {
 fn show_written(w: Result<usize, Refused>) {
     match w {
         Ok(at) => console::numbered(b"next ", at as u64),
-        Err(refused) => console::refusal(refused),
+        Err(refused) => console::refused(refused),
     }
 }
 

@@ -13,10 +13,10 @@ use session::{Session, Verdict};
 pub(crate) fn order(log: &[u8], first: usize, second: usize) {
     match order_query::query(log, first, second) {
         Ok(relation) => show_relation(relation),
-        Err(QueryRefusal::Log(refused)) => console::refusal(refused),
+        Err(QueryRefusal::Log(refused)) => console::refused(refused),
         Err(QueryRefusal::Query(refused)) => {
             console::text(b"query ");
-            console::refusal(refused);
+            console::refused(refused);
         }
     }
 }
@@ -48,10 +48,10 @@ fn show_given(given: Given) {
             row = order;
         }
         Ok(None) => console::text(b"last"),
-        Err(OrdersRefusal::Log(refused)) => console::refusal(refused),
+        Err(OrdersRefusal::Log(refused)) => console::refused(refused),
         Err(OrdersRefusal::Orders(refused)) => {
             console::text(b"orders ");
-            console::refusal(refused);
+            console::refused(refused);
         }
     }
     console::text(b",");
@@ -90,11 +90,11 @@ fn show_judged(judged: Result<Verdict, RunRefusal>) {
     match judged {
         Ok(verdict) => show_verdict(verdict),
         Err(RunRefusal::Pattern(refused)) => {
-            console::pattern_refusal(refused);
+            console::pattern_refused(refused);
             show_numbers([0; event::SLOTS]);
         }
         Err(RunRefusal::Log(refused)) => {
-            console::refusal(refused);
+            console::refused(refused);
             show_numbers([0; event::SLOTS]);
         }
     }
@@ -151,6 +151,6 @@ fn show_verdict(v: Verdict) {
 fn show_answer(answer: Result<(), Refused>) {
     match answer {
         Ok(()) => console::text(b"taken"),
-        Err(refused) => console::refusal(refused),
+        Err(refused) => console::refused(refused),
     }
 }

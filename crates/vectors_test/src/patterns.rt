@@ -14,7 +14,7 @@ fn show(read: Result<Pattern, Refused>) {
             console::number(pattern.size as u64);
             console::text(b" slots");
         }
-        Err(refused) => console::pattern_refusal(refused),
+        Err(refused) => console::pattern_refused(refused),
     }
 }
 

@@ -20,7 +20,7 @@ fn read_log(bytes: &[u8]) {
             console::number(events as u64);
             console::text(b" events");
         }
-        Err(refused) => console::refusal(refused),
+        Err(refused) => console::refused(refused),
     }
 }
 
