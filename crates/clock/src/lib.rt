@@ -185,6 +185,7 @@ fn hear(s: Stamp, counts: &[u16], from: usize) -> Stamp
     ensures { result ≡ heard_from s counts.now from }
 {
     let mut r = s;
+    // Kept: two rows go by one index and the loop becomes vectors; of what `iter_mut` with `zip` writes a proof knows nothing.
     for i in 0..THREADS {
         let count = r.at[i].max(counts[from + i]);
         r.at[i] = count;
@@ -198,6 +199,7 @@ fn tell(clocks: &mut [u16; CLOCKS], to: usize, s: Stamp)
     requires { to + threads ≤ size }
     ensures { clocks.new ≡ told_to clocks.old to s }
 {
+    // Kept: two rows go by one index and the loop becomes vectors; of what `iter_mut` with `zip` writes a proof knows nothing.
     for i in 0..THREADS {
         let count = clocks[to + i].max(s.at[i]);
         clocks[to + i] = count;
@@ -210,6 +212,7 @@ fn tick(s: Stamp, t: usize) -> Stamp
     ensures { result ≡ ticked_at s t }
 {
     let mut r = s;
+    // Kept: the index is compared with the thread, and the loop becomes vectors.
     for i in 0..THREADS {
         let count = next_count(r.at[i], t == i);
         r.at[i] = count;

@@ -33,6 +33,8 @@ use Rattle.clock.specs.Arrivals.{StampOf, ClocksOf}
 use Rattle.clock.proofs.Entries.{heard_length, heard_from_lem}
 use Rattle.first.specs.declared.Search.{Search}
 use Rattle.first.specs.Search.{none_found, filled, looking_on, is_running}
+use Rattle.passes.specs.declared.Sought.{Sought}
+use Rattle.passes.specs.declared.Followed.{Followed}
 use Rattle.passes.specs.Passes.{Leads, SlotsOf, LastsOf, FirstAbove, Stamped}
 use Rattle.first.specs.Holding.{chosen_by, Joined, Underway, Settled, NextIs, Following, Newest}
 use Rattle.passes.proofs.Noting.{keyed_at}
@@ -67,25 +69,25 @@ joined_append : {es : List Event} {ss left : List Slot} {cs : List ℕ} {stamp :
 joined_append {es} later k h =
     record { whole = h.whole; counts = λ t l. h.counts t l ∙ sym (join_append no_event dependent thread_of fits es later k t) }
 
-module _ {slots : List Slot} {keys : List ℕ} {size : ℕ} (so : SlotsOf slots keys size) where
+module _ {k : Sought} (so : SlotsOf k) where
   abbrev ss : List Slot
-  ss = take size slots
+  ss = take k.size k.slots
 
-  pub ss_length : length (take size slots) ≡ size
-  ss_length = let few = so.few in let w = so.whole in length-take-le size slots (omega arith)
+  pub ss_length : length (take k.size k.slots) ≡ k.size
+  ss_length = let few = so.few in let w = so.whole in length-take-le k.size k.slots (omega arith)
 
-  slot_at : (k : ℕ) → k < size → drop k ss ≡ get_or slots k no_slot ∷ drop (suc k) ss
-  slot_at k l = drop-cons ss k no_slot (rw ss_length l) ∙ ap (λ (s : Slot). s ∷ drop (suc k) ss) (get_or-take size slots k no_slot l)
+  slot_at : (i : ℕ) → i < k.size → drop i ss ≡ get_or k.slots i no_slot ∷ drop (suc i) ss
+  slot_at i l = drop-cons ss i no_slot (rw ss_length l) ∙ ap (λ (s : Slot). s ∷ drop (suc i) ss) (get_or-take k.size k.slots i no_slot l)
 
-  no_slot_lem : (k : ℕ) → size ≤ k → drop k ss ≡ []
-  no_slot_lem k l = drop_of_length-le ss {i = k} (rw ss_length l)
+  no_slot_lem : (i : ℕ) → k.size ≤ i → drop i ss ≡ []
+  no_slot_lem i l = drop_of_length-le ss {i = i} (rw ss_length l)
 
-  none_left : (es : List Event) (k : ℕ) (cs : List ℕ) → size ≤ k → StuckIn es (drop k ss) cs
-  none_left es k cs l = subst (λ (left : List Slot). StuckIn es left cs) (sym (no_slot_lem k l)) tt
+  none_left : (es : List Event) (i : ℕ) (cs : List ℕ) → k.size ≤ i → StuckIn es (drop i ss) cs
+  none_left es i cs l = subst (λ (left : List Slot). StuckIn es left cs) (sym (no_slot_lem i l)) tt
 
   -- ---- nothing is found yet
 
-  pub none_found_lem : 0 < size → Settled [] slots size (none_found keys)
+  pub none_found_lem : 0 < k.size → Settled [] k.slots k.size (none_found k.keys)
   none_found_lem l =
       record {
         found = record {
@@ -104,8 +106,8 @@ module _ {slots : List Slot} {keys : List ℕ} {size : ℕ} (so : SlotsOf slots 
 
   -- ---- an event arrives
 
-  module _ {es : List Event} {s : Search} (h : Settled es slots size s) (e : Event) where
-    still_found : Underway (es ++ (e ∷ [])) slots size s
+  module _ {es : List Event} {s : Search} (h : Settled es k.slots k.size s) (e : Event) where
+    still_found : Underway (es ++ (e ∷ [])) k.slots k.size s
     still_found =
         let f = h.found in
         record {
@@ -117,18 +119,18 @@ module _ {slots : List Slot} {keys : List ℕ} {size : ℕ} (so : SlotsOf slots 
         }
 
     -- no slot is left to look for
-    pub all_found : size ≤ s.found → Settled (es ++ (e ∷ [])) slots size s
+    pub all_found : k.size ≤ s.found → Settled (es ++ (e ∷ [])) k.slots k.size s
     all_found l = record { found = still_found; stuck = none_left (es ++ (e ∷ [])) s.found (chosen_by s) l }
 
-    module _ (l : s.found < size) where
-      steps_at : ChosenIn ss es (chosen_by s) (get_or slots s.found no_slot ∷ drop (suc s.found) ss)
+    module _ (l : s.found < k.size) where
+      steps_at : ChosenIn ss es (chosen_by s) (get_or k.slots s.found no_slot ∷ drop (suc s.found) ss)
       steps_at = subst (ChosenIn ss es (chosen_by s)) (slot_at s.found l) h.found.steps
 
-      stuck_at : StuckIn es (get_or slots s.found no_slot ∷ drop (suc s.found) ss) (chosen_by s)
+      stuck_at : StuckIn es (get_or k.slots s.found no_slot ∷ drop (suc s.found) ss) (chosen_by s)
       stuck_at = subst (λ (left : List Slot). StuckIn es left (chosen_by s)) (slot_at s.found l) h.stuck
 
       -- it does not fit the slot looked for
-      pub passes : fits (get_or slots s.found no_slot) e ≡ false → Settled (es ++ (e ∷ [])) slots size s
+      pub passes : fits (get_or k.slots s.found no_slot) e ≡ false → Settled (es ++ (e ∷ [])) k.slots k.size s
       passes f =
           record {
             found = still_found;
@@ -137,7 +139,7 @@ module _ {slots : List Slot} {keys : List ℕ} {size : ℕ} (so : SlotsOf slots 
           }
 
       -- it does, and is the next of the choice
-      pub takes : fits (get_or slots s.found no_slot) e ≡ true → NextIs (es ++ (e ∷ [])) slots size s (length es + 1)
+      pub takes : fits (get_or k.slots s.found no_slot) e ≡ true → NextIs (es ++ (e ∷ [])) k s (length es + 1)
       takes t =
           record {
             shaped = h.found.shaped;
@@ -148,7 +150,7 @@ module _ {slots : List Slot} {keys : List ℕ} {size : ℕ} (so : SlotsOf slots 
 
   -- ---- an event fills the slot looked for
 
-  module _ {es : List Event} {s : Search} {n : ℕ} (h : NextIs es slots size s n) (l : s.found < size) where
+  module _ {es : List Event} {s : Search} {n : ℕ} (h : NextIs es k s n) (l : s.found < k.size) where
     low : s.found < length s.numbers
     low = let w = h.shaped.whole in let few = so.few in omega arith
 
@@ -165,12 +167,12 @@ module _ {slots : List Slot} {keys : List ℕ} {size : ℕ} (so : SlotsOf slots 
     whole_now = length-set s.numbers s.found n ∙ h.shaped.whole
 
     -- and it was the last
-    pub fills_last : s.found + 1 ≡ size → Settled es slots size (filled s n)
+    pub fills_last : s.found + 1 ≡ k.size → Settled es k.slots k.size (filled s n)
     fills_last q =
         record {
           found = record {
             shaped = record {
-              running = sym (running_on s.found size ∙ le-ltb (s.found + 1 + 1) size (omega arith));
+              running = sym (running_on s.found k.size ∙ le-ltb (s.found + 1 + 1) k.size (omega arith));
               whole = whole_now;
               beyond = beyond_now;
             };
@@ -194,10 +196,10 @@ module _ {slots : List Slot} {keys : List ℕ} {size : ℕ} (so : SlotsOf slots 
           max_turn : (x y : ℕ) → max x y ≡ max y x
           max_turn x y = omega arith
 
-      pub fills_on : s.found + 1 < size → Underway es slots size (looking_on keys size (filled s n) stamp)
+      pub fills_on : s.found + 1 < k.size → Underway es k.slots k.size (looking_on k.keys k.size (filled s n) stamp)
       fills_on u =
           record {
-            shaped = record { running = sym (running_on s.found size); whole = whole_now; beyond = beyond_now };
+            shaped = record { running = sym (running_on s.found k.size); whole = whole_now; beyond = beyond_now };
             steps = steps_now;
             stamps = λ v.
                 record { whole = heard_length s.stamps stamp.at 0 h.stamps.whole; counts = rw chosen_now counts_now };
@@ -207,9 +209,9 @@ module _ {slots : List Slot} {keys : List ℕ} {size : ℕ} (so : SlotsOf slots 
 
   -- ---- an event already read, for the slot looked for
 
-  module _ {es : List Event} {s : Search} (h : Underway es slots size s) (l : s.found < size) {last : List ℕ} (ls : LastsOf es slots size last) where
+  module _ {es : List Event} {s : Search} (h : Underway es k.slots k.size s) (l : s.found < k.size) {last : List ℕ} (ls : LastsOf es k last) where
     abbrev slot : Slot
-    slot = get_or slots s.found no_slot
+    slot = get_or k.slots s.found no_slot
 
     abbrev barred : ℕ
     barred = count_of slot.thread s.stamps
@@ -220,20 +222,20 @@ module _ {slots : List Slot} {keys : List ℕ} {size : ℕ} (so : SlotsOf slots 
     barred_is : barred ≡ join_in es (chosen_by s) slot.thread
     barred_is = rw (lt-ltb slot.thread threads (so.low s.found l)) ((h.stamps l).counts slot.thread (so.low s.found l))
 
-    settled_by_lem : StuckIn es (slot ∷ drop (suc s.found) ss) (chosen_by s) → Settled es slots size s
+    settled_by_lem : StuckIn es (slot ∷ drop (suc s.found) ss) (chosen_by s) → Settled es k.slots k.size s
     settled_by_lem d = record { found = h; stuck = subst (λ (left : List Slot). StuckIn es left (chosen_by s)) (sym (slot_at s.found l)) d }
 
     -- every event that fits comes before one found or is it: the last places tell,
-    pub none_earlier : get_or last s.found 0 ≤ barred → Settled es slots size s
+    pub none_earlier : get_or last s.found 0 ≤ barred → Settled es k.slots k.size s
     none_earlier u =
         settled_by_lem (settles_on no_event dependent thread_of fits one_thread (λ s. s.thread) of_slot es steps_on barred_is (ls.each s.found l) (le-leb _ _ u))
 
     -- or a return to the start;
-    pub none_above : FirstAbove es slot barred None → Settled es slots size s
+    pub none_above : FirstAbove es slot barred None → Settled es k.slots k.size s
     none_above f = settled_by_lem (settles_none no_event dependent thread_of fits one_thread (λ s. s.thread) of_slot es steps_on barred_is f)
 
     -- or the first that does not is the next of the choice
-    pub returns_to : (n : ℕ) → FirstAbove es slot barred (Some n) → NextIs es slots size s n
+    pub returns_to : (n : ℕ) → FirstAbove es slot barred (Some n) → NextIs es k s n
     returns_to n f =
         record {
           shaped = h.shaped;
@@ -245,31 +247,30 @@ module _ {slots : List Slot} {keys : List ℕ} {size : ℕ} (so : SlotsOf slots 
   -- ---- the clocks when an event is found
 
   -- the stamp of event number n, with the clocks and the last places of all events
-  pub record Own (es : List Event) (n : ℕ) (stamp : Stamp) (clocks last : List ℕ) : Type 0 where
+  pub record Own (es : List Event) (n : ℕ) (stamp : Stamp) (f : Followed) : Type 0 where
     pub stamp_is : StampOf es n stamp
-    pub held : ClocksOf es clocks
-    pub lasts : LastsOf es slots size last
+    pub held : ClocksOf es f.clocks
+    pub lasts : LastsOf es k f.last
 
-  module _ {bytes : List ℕ} {es : List Event} {s : Search} {n : ℕ} (ld : Leads bytes es n) (h : NextIs es slots size s n)
-      {clocks last : List ℕ} {stamp : Stamp} (nw : Newest es slots size s clocks last n stamp) where
+  module _ {bytes : List ℕ} {es : List Event} {s : Search} {n : ℕ} (ld : Leads bytes es n) (h : NextIs es k s n)
+      {f : Followed} {stamp : Stamp} (nw : Newest es k s f n stamp) where
     -- it comes from a pass over all events, where the first slot is filled,
-    pub own_passed : {own : Stamp} {clocks-after last-after : List ℕ} → s.found ≡ 0 → Stamped es keys n clocks last own clocks-after last-after
-        → Own es n own clocks-after last-after
+    pub own_passed : {own : Stamp} {after : Followed} → s.found ≡ 0 → Stamped es k.keys n f own after → Own es n own after
     own_passed q pass =
-        let k = nw.following.still q in
-        let t = pass h.among.0 h.among.1 k.0 in
+        let b = nw.following.still q in
+        let t = pass h.among.0 h.among.1 b.0 in
         let c = ld.count in
         let all : take n es ≡ es = take_all n es (omega arith) in
-        record { stamp_is = t.stamp_is; held = rw all at t.held; lasts = rw all at (t.lasts slots size so k.1) }
+        record { stamp_is = t.stamp_is; held = rw all at t.held; lasts = rw all at (t.lasts k refl so b.1) }
 
     -- and else from the clocks that run
-    pub own_given : s.found + 1 < size → (s.found ≡ 0 → ⊥) → Own es n stamp clocks last
+    pub own_given : s.found + 1 < k.size → (s.found ≡ 0 → ⊥) → Own es n stamp f
     own_given u d =
-        let r : s.running ≡ true = h.shaped.running ∙ rw (ne_eqb _ _ d, lt-ltb (s.found + 1) size u) refl in
-        let k = nw.following.held r in
-        record { stamp_is = nw.stamped r; held = k.0; lasts = k.1 }
+        let r : s.running ≡ true = h.shaped.running ∙ rw (ne_eqb _ _ d, lt-ltb (s.found + 1) k.size u) refl in
+        let b = nw.following.held r in
+        record { stamp_is = nw.stamped r; held = b.0; lasts = b.1 }
 
 -- once a slot is found the clocks are of all events, or stand still for good
-pub follows_on : {es : List Event} {slots : List Slot} {size : ℕ} {s : Search} {clocks last : List ℕ} → 0 < s.found
-    → (s.running ≡ true → ClocksOf es clocks × LastsOf es slots size last) → Following es slots size s clocks last
+pub follows_on : {es : List Event} {k : Sought} {s : Search} {f : Followed} → 0 < s.found
+    → (s.running ≡ true → ClocksOf es f.clocks × LastsOf es k f.last) → Following es k s f
 follows_on l h = record { still = λ z. absurd (let f : ⊥ = omega arith in f); held = h }

@@ -15,6 +15,8 @@ use Rattle.clock.specs.declared.Stamp.{Stamp}
 use Rattle.clock.specs.Arrivals.{StampOf, ClocksOf}
 use Rattle.first.specs.declared.Search.{Search}
 use Rattle.first.specs.Search.{no_key, is_running}
+use Rattle.passes.specs.declared.Sought.{Sought}
+use Rattle.passes.specs.declared.Followed.{Followed}
 use Rattle.passes.specs.Passes.{LastsOf}
 
 -- the events found so far
@@ -46,18 +48,18 @@ pub record Settled (es : List Event) (slots : List Slot) (size : ℕ) (s : Searc
   pub stuck : StuckOf no_event dependent fits es (drop s.found (take size slots)) (chosen_by s)
 
 -- event number n is the next of the choice: it is the first that can fill the slot looked for
-pub record NextIs (es : List Event) (slots : List Slot) (size : ℕ) (s : Search) (n : ℕ) : Type 0 where
-  pub shaped : Shaped size s
+pub record NextIs (es : List Event) (k : Sought) (s : Search) (n : ℕ) : Type 0 where
+  pub shaped : Shaped k.size s
   pub stamps : Joined es (chosen_by s) s.stamps
   pub among : Among (length es) n
-  pub steps : ChosenOf no_event dependent fits (take size slots) es (chosen_by s ++ (n ∷ [])) (drop (suc s.found) (take size slots))
+  pub steps : ChosenOf no_event dependent fits (take k.size k.slots) es (chosen_by s ++ (n ∷ [])) (drop (suc s.found) (take k.size k.slots))
 
 -- the clocks and the last places: of no events before the first slot is found, and of all events while the clocks run
-pub record Following (es : List Event) (slots : List Slot) (size : ℕ) (s : Search) (clocks last : List ℕ) : Type 0 where
-  pub still : s.found ≡ 0 → ClocksOf [] clocks × LastsOf [] slots size last
-  pub held : s.running ≡ true → ClocksOf es clocks × LastsOf es slots size last
+pub record Following (es : List Event) (k : Sought) (s : Search) (f : Followed) : Type 0 where
+  pub still : s.found ≡ 0 → ClocksOf [] f.clocks × LastsOf [] k f.last
+  pub held : s.running ≡ true → ClocksOf es f.clocks × LastsOf es k f.last
 
 -- the same when the newest event, number n, has come: while the clocks run, its stamp is known
-pub record Newest (es : List Event) (slots : List Slot) (size : ℕ) (s : Search) (clocks last : List ℕ) (n : ℕ) (stamp : Stamp) : Type 0 where
-  pub following : Following es slots size s clocks last
+pub record Newest (es : List Event) (k : Sought) (s : Search) (f : Followed) (n : ℕ) (stamp : Stamp) : Type 0 where
+  pub following : Following es k s f
   pub stamped : s.running ≡ true → StampOf es n stamp

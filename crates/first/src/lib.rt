@@ -9,7 +9,7 @@ ghost use Rattle.passes.specs.Passes.{Leads, SlotsOf, LastsOf, Stamped};
 ghost use Rattle.first.specs.Holding.{NextIs, Underway, Settled, Following, Newest};
 
 use clock::Stamp;
-use event::Slot;
+use passes::{Followed, Sought};
 
 // The key of no slot: it names a thread that no event has.
 // Kept: a key and not an Option of one, so that one comparison tells that a slot is looked for and that the event has its key.
@@ -26,13 +26,13 @@ pub struct Search {
     pub stamps: Stamp,
 }
 
-// Nothing is found yet; `keys` are those of the slots.
-pub fn none_found(keys: [u16; event::SLOTS]) -> Search
-    ensures { result ≡ none_found keys }
+// Nothing is found yet.
+pub fn none_found(sought: &Sought) -> Search
+    ensures { result ≡ none_found sought.now.keys }
 {
     Search {
         found: 0,
-        want: keys[0],
+        want: sought.keys[0],
         running: false,
         numbers: [0; event::SLOTS],
         stamps: clock::NO_STAMP,
@@ -42,51 +42,40 @@ pub fn none_found(keys: [u16; event::SLOTS]) -> Search
 // The newest event of a log, number n, fills the slot looked for. Then each slot after it, so far as an event already read fills it.
 pub fn choose(
     log: &[u8],
-    slots: [Slot; event::SLOTS],
-    keys: [u16; event::SLOTS],
-    size: usize,
+    sought: &Sought,
     s: Search,
     n: usize,
-    clocks: &mut [u16; clock::CLOCKS],
-    last: &mut [u16; event::SLOTS],
+    followed: &mut Followed,
     stamp: Stamp,
 ) -> Search
-    requires { (s.found < size) × ((size ≤ slot_limit) × (n ≤ events)) }
-    ensures within { result.found ≤ size }
-    ensures settled { (es : List Event) → Leads log.now es n → SlotsOf slots keys size → NextIs es slots size s n → Newest es slots size s clocks.old last.old n stamp → Settled es slots size result × Following es slots size result clocks.new last.new }
+    requires { (s.found < sought.now.size) × ((sought.now.size ≤ slot_limit) × (n ≤ events)) }
+    ensures within { result.found ≤ sought.now.size }
+    ensures settled { (es : List Event) → Leads log.now es n → SlotsOf sought.now → NextIs es sought.now s n → Newest es sought.now s followed.old n stamp → Settled es sought.now.slots sought.now.size result × Following es sought.now result followed.new }
 {
     let full = fill(s, n);
-    if full.found == size {
+    if full.found == sought.size {
         return full;
     }
     // The clocks gave the stamp of the newest event, or, where it fills the first slot, they take all events up to it.
     let own = if s.found == 0 {
-        passes::pass(log, n, keys, clocks, last)
+        followed.pass(log, n, sought.keys)
     } else {
         stamp
     };
-    let next = look_on(keys, size, full, own);
-    settle(log, slots, keys, size, next, last, n)
+    let next = look_on(sought, full, own);
+    settle(log, sought, next, &followed.last, n)
 }
 
 // Returns to the start of the log for each slot that an event already read may fill: none does where the place of the last that has its key is
 // not above what the stamps count.
-fn settle(
-    log: &[u8],
-    slots: [Slot; event::SLOTS],
-    keys: [u16; event::SLOTS],
-    size: usize,
-    from: Search,
-    last: &[u16; event::SLOTS],
-    n: usize,
-) -> Search
-    requires { (from.found < size) × ((size ≤ slot_limit) × (n ≤ events)) }
-    ensures within { (from.found ≤ result.found) × (result.found ≤ size) }
-    ensures settled { (es : List Event) → Leads log.now es n → SlotsOf slots keys size → Underway es slots size from → LastsOf es slots size last.now → Settled es slots size result }
+fn settle(log: &[u8], sought: &Sought, from: Search, last: &[u16; event::SLOTS], n: usize) -> Search
+    requires { (from.found < sought.now.size) × ((sought.now.size ≤ slot_limit) × (n ≤ events)) }
+    ensures within { (from.found ≤ result.found) × (result.found ≤ sought.now.size) }
+    ensures settled { (es : List Event) → Leads log.now es n → SlotsOf sought.now → Underway es sought.now.slots sought.now.size from → LastsOf es sought.now last.now → Settled es sought.now.slots sought.now.size result }
 {
     let mut s = from;
     loop {
-        let slot = slots[s.found];
+        let slot = sought.slots[s.found];
         let barred = clock::count_of(slot.thread, s.stamps);
         if last[s.found] <= barred {
             return s;
@@ -95,13 +84,11 @@ fn settle(
             return s;
         };
         s = fill(s, e);
-        if s.found == size {
+        if s.found == sought.size {
             return s;
         }
-        let mut clocks = clock::fresh();
-        let mut places = [0u16; event::SLOTS];
-        let stamp = passes::pass(log, e, keys, &mut clocks, &mut places);
-        s = look_on(keys, size, s, stamp);
+        let stamp = Followed::fresh().pass(log, e, sought.keys);
+        s = look_on(sought, s, stamp);
     }
 }
 
@@ -122,13 +109,13 @@ fn fill(s: Search, n: usize) -> Search
 }
 
 // The stamp of the event found is joined with the others, and the next slot is looked for.
-fn look_on(keys: [u16; event::SLOTS], size: usize, s: Search, stamp: Stamp) -> Search
+fn look_on(sought: &Sought, s: Search, stamp: Stamp) -> Search
     requires { (s.found < slot_limit) × (0 < s.found) }
-    ensures { result ≡ looking_on keys size s stamp }
+    ensures { result ≡ looking_on sought.now.keys sought.now.size s stamp }
 {
     Search {
-        want: keys[s.found],
-        running: s.found + 1 < size,
+        want: sought.keys[s.found],
+        running: s.found + 1 < sought.size,
         stamps: clock::join(s.stamps, stamp),
         ..s
     }

@@ -11,7 +11,6 @@ use lib.ListN.{length, get_or}
 use borrow.Author.Tests.{eq-eqb, eqb-true, le-leb, lt-leb, lt-ltb, ltb-true, ltb-false}
 use Rattle.event.proofs.Tests.{by_test}
 use Rattle.event.specs.declared.Event.{Event}
-use Rattle.event.specs.declared.Slot.{Slot}
 use Rattle.event.specs.Limits.{threads, slots as slot_limit, events}
 use Rattle.event.specs.Slots.{fits, slot_of, no_event, no_slot}
 use Rattle.event.specs.Range.{range_refusal}
@@ -32,6 +31,7 @@ use Rattle.clock.specs.declared.Stamp.{Stamp}
 use Rattle.clock.specs.Clocks.{stamp_by, clocks_after, count_of}
 use Rattle.clock.specs.Arrivals.{StampOf, ClocksOf, Arrived}
 use Rattle.clock.proofs.History.{arrived}
+use Rattle.passes.specs.declared.Sought.{Sought}
 use Rattle.passes.specs.LastPlaces.{noted, last_by}
 use Rattle.passes.specs.Passes.{SlotsOf, LastsOf}
 
@@ -59,44 +59,43 @@ newest_place es e s low h =
     counted : count_of e.thread s ≡ get_or s.at e.thread 0
     counted = rw (lt-ltb e.thread threads low) refl
 
-module _ {slots : List Slot} {keys : List ℕ} {size : ℕ} (so : SlotsOf slots keys size) where
+module _ {k : Sought} (so : SlotsOf k) where
   -- the key of a slot
-  pub keyed_at : (j : ℕ) → j < size → get_or keys j 0 ≡ slot_key (get_or slots j no_slot)
+  pub keyed_at : (j : ℕ) → j < k.size → get_or k.keys j 0 ≡ slot_key (get_or k.slots j no_slot)
   unfolding slot_keys
   keyed_at j l =
       let few = so.few in
-      let n : length slots ≡ slot_limit = so.whole in
-      rw so.keyed (map_at slot_key slots no_slot 0 j (omega arith))
+      let n : length k.slots ≡ slot_limit = so.whole in
+      rw so.keyed (map_at slot_key k.slots no_slot 0 j (omega arith))
 
   -- before any event
-  pub none_last : (last : List ℕ) → length last ≡ slot_limit → ((j : ℕ) → j < slot_limit → get_or last j 0 ≡ 0) → LastsOf [] slots size last
+  pub none_last : (last : List ℕ) → length last ≡ slot_limit → ((j : ℕ) → j < slot_limit → get_or last j 0 ≡ 0) → LastsOf [] k last
   none_last last w z =
-      record { whole = w; each = λ j l. let few = so.few in rw (z j (omega arith)) (bound_begins no_event dependent thread_of fits (get_or slots j no_slot)) }
+      record { whole = w; each = λ j l. let few = so.few in rw (z j (omega arith)) (bound_begins no_event dependent thread_of fits (get_or k.slots j no_slot)) }
 
   module _ (e : Event) (low : e.thread < threads) where
-    pub lasts_arrive : (es : List Event) (last : List ℕ) (p : ℕ) → LastsOf es slots size last
+    pub lasts_arrive : (es : List Event) (last : List ℕ) (p : ℕ) → LastsOf es k last
         → place (thread_at no_event thread_of (es ++ (e ∷ []))) (suc (length es)) ≡ p
-        → LastsOf (es ++ (e ∷ [])) slots size (noted (slot_key (slot_of e)) p keys last)
+        → LastsOf (es ++ (e ∷ [])) k (noted (slot_key (slot_of e)) p k.keys last)
     lasts_arrive es last p h q = record { whole = updated_length 0 _ last 0 slot_limit ∙ h.whole; each = one }
       where
-        one : (j : ℕ) → j < size → BoundOf no_event dependent thread_of fits (es ++ (e ∷ [])) (get_or slots j no_slot) (get_or (noted (slot_key (slot_of e)) p keys last) j 0)
+        one : (j : ℕ) → j < k.size → BoundOf no_event dependent thread_of fits (es ++ (e ∷ [])) (get_or k.slots j no_slot) (get_or (noted (slot_key (slot_of e)) p k.keys last) j 0)
         one j l =
             let few = so.few in
             let w : length last ≡ slot_limit = h.whole in
-            let t : (get_or slots j no_slot).thread < threads = so.low j l in
-            rw (updated_first 0 (λ i x. cond (eqb (get_or keys i 0) (slot_key (slot_of e))) p x) last slot_limit j (omega arith) (omega arith), keyed_at j l, ← q)
+            let t : (get_or k.slots j no_slot).thread < threads = so.low j l in
+            rw (updated_first 0 (λ i x. cond (eqb (get_or k.keys i 0) (slot_key (slot_of e))) p x) last slot_limit j (omega arith) (omega arith), keyed_at j l, ← q)
             (bound_arrives no_event dependent thread_of fits one_thread (λ s. s.thread) (λ s a f. sym (fits_alike s a f).thread) es e
-            (eqb (slot_key (get_or slots j no_slot)) (slot_key (slot_of e)))
-            (λ f. eq-eqb _ _ (fits_key (get_or slots j no_slot) e f))
-            (λ k. key_thread (get_or slots j no_slot) e (omega arith) (omega arith) (eqb-true _ _ k))
+            (eqb (slot_key (get_or k.slots j no_slot)) (slot_key (slot_of e)))
+            (λ f. eq-eqb _ _ (fits_key (get_or k.slots j no_slot) e f))
+            (λ w. key_thread (get_or k.slots j no_slot) e (omega arith) (omega arith) (eqb-true _ _ w))
             (h.each j l))
 
 -- the clocks take an event, and its place is noted
 pub followed_by : (es : List Event) (clocks : List ℕ) (e : Event) → ClocksOf es clocks → length es < events → range_refusal (slot_of e) ≡ 0
     → Arrived es e (stamp_by clocks e) (clocks_after clocks e)
-    × ((slots : List Slot) (keys : List ℕ) (size : ℕ) (last : List ℕ) → SlotsOf slots keys size → LastsOf es slots size last
-    → LastsOf (es ++ (e ∷ [])) slots size (last_by clocks keys (slot_key (slot_of e)) e last))
+    × ((k : Sought) (last : List ℕ) → SlotsOf k → LastsOf es k last → LastsOf (es ++ (e ∷ [])) k (last_by clocks k.keys (slot_key (slot_of e)) e last))
 followed_by es clocks e h l r =
     let a = (arrived clocks e (stamp_by clocks e) (clocks_after clocks e) refl refl).1.1 es h l r in
     let low = (in_range (slot_of e) r).thread in
-    (a, λ slots keys size last so k. lasts_arrive so e low es last _ k (newest_place es e (stamp_by clocks e) low a.stamp))
+    (a, λ k last so h. lasts_arrive so e low es last _ h (newest_place es e (stamp_by clocks e) low a.stamp))

@@ -27,12 +27,14 @@ use Rattle.trace.proofs.FirstChoice.{NoneOf, none_up}
 use Rattle.trace.proofs.FirstScan.{exceeds}
 use Rattle.trace.proofs.FirstArrivals.{seen, seen_snoc, place_seen}
 use Rattle.clock.specs.declared.Stamp.{Stamp}
-use Rattle.clock.specs.Clocks.{highest_count, up, stamp_by, clocks_after}
+use Rattle.clock.specs.Clocks.{highest_count, up, stamp_by}
 use Rattle.clock.specs.Arrivals.{StampOf, ClocksOf}
 use Rattle.clock.proofs.Later.{entry_stays}
 use Rattle.command.specs.Reading.{command, read_event}
 use Rattle.event_log.proofs.Leading.{Midway, at_start, past_it, within_limits_lem}
-use Rattle.passes.specs.LastPlaces.{last_by}
+use Rattle.passes.specs.declared.Sought.{Sought}
+use Rattle.passes.specs.declared.Followed.{Followed}
+use Rattle.passes.specs.LastPlaces.{followed_on}
 use Rattle.passes.specs.Passes.{Leads, SlotsOf, LastsOf, fills_at, FirstAbove, StampedTo}
 use Rattle.passes.proofs.Noting.{followed_by}
 
@@ -86,7 +88,7 @@ fills_next_lem gone rest e slot barred =
 -- ---- looking for the first event that fills a slot
 
 -- i events gone past, so many of them of the slot's thread, and none of them fills it
-pub record Sought (bytes : List ℕ) (es : List Event) (slot : Slot) (barred place at i : ℕ) : Type 0 where
+pub record PassedOver (bytes : List ℕ) (es : List Event) (slot : Slot) (barred place at i : ℕ) : Type 0 where
   pub gone : List Event
   pub passed : Midway bytes es gone at
   pub count : length gone ≡ i
@@ -94,10 +96,10 @@ pub record Sought (bytes : List ℕ) (es : List Event) (slot : Slot) (barred pla
   pub none : NoneOf (fills_at es slot barred) i
 
 module _ {bytes : List ℕ} {es : List Event} {n : ℕ} (ls : Leads bytes es n) {slot : Slot} {barred : ℕ} where
-  pub sought : Sought bytes es slot barred 0 0 0
-  sought = record { gone = []; passed = at_start bytes ls.read; count = refl; counted = refl; none = λ m u. absurd (let z : ⊥ = omega arith in z) }
+  pub passed_over : PassedOver bytes es slot barred 0 0 0
+  passed_over = record { gone = []; passed = at_start bytes ls.read; count = refl; counted = refl; none = λ m u. absurd (let z : ⊥ = omega arith in z) }
 
-  module _ {place at i : ℕ} (s : Sought bytes es slot barred place at i) (l : i < n) where
+  module _ {place at i : ℕ} (s : PassedOver bytes es slot barred place at i) (l : i < n) where
     pub ahead : length s.gone < length es
     ahead = let c = ls.count in let g = s.count in omega arith
 
@@ -120,7 +122,7 @@ module _ {bytes : List ℕ} {es : List Event} {n : ℕ} (ls : Leads bytes es n) 
           ∙ fills_next_lem s.gone later.rest e slot barred
           ∙ ap (λ (p : ℕ). exceeds (fits slot e) p barred) (sym up_is)
 
-      pub not_this : exceeds (fits slot e) counted_up barred ≡ false → Sought bytes es slot barred counted_up next (i + 1)
+      pub not_this : exceeds (fits slot e) counted_up barred ≡ false → PassedOver bytes es slot barred counted_up next (i + 1)
       not_this f =
           record {
             gone = s.gone ++ (e ∷ []);
@@ -133,7 +135,7 @@ module _ {bytes : List ℕ} {es : List Event} {n : ℕ} (ls : Leads bytes es n) 
       pub this_one : exceeds (fits slot e) counted_up barred ≡ true → FirstAbove es slot barred (Some (i + 1))
       this_one t = let c = ls.count in rw (add-one i) (omega arith, this ∙ t, λ m u v. s.none m (u, omega arith))
 
-  pub nowhere : {place at i : ℕ} → Sought bytes es slot barred place at i → n ≤ i → FirstAbove es slot barred None
+  pub nowhere : {place at i : ℕ} → PassedOver bytes es slot barred place at i → n ≤ i → FirstAbove es slot barred None
   nowhere s l = let c = ls.count in λ m u. s.none m (u.0, let v = u.1 in omega arith)
 
 -- ---- the stamp of an event
@@ -142,44 +144,44 @@ pub stamp_stays : (es later : List Event) (n : ℕ) (s : Stamp) → 0 < n → n 
 stamp_stays es later n s p l h t low = entry_stays es later n t _ (event_at no_event es n) (at_numbered no_event es n (p, l)) (h t low)
 
 -- i events gone past, which the clocks hold, with the last places; and the stamp of the last of them
-pub record Followed (bytes : List ℕ) (es : List Event) (keys : List ℕ) (last₀ : List ℕ) (clocks last : List ℕ) (stamp : Stamp) (at i : ℕ) : Type 0 where
+pub record FollowedTo (bytes : List ℕ) (es : List Event) (keys : List ℕ) (before after : Followed) (stamp : Stamp) (at i : ℕ) : Type 0 where
   pub gone : List Event
   pub passed : Midway bytes es gone at
   pub count : length gone ≡ i
-  pub held : ClocksOf gone clocks
-  pub lasts : (slots : List Slot) (size : ℕ) → SlotsOf slots keys size → LastsOf [] slots size last₀ → LastsOf gone slots size last
+  pub held : ClocksOf gone after.clocks
+  pub lasts : (k : Sought) → k.keys ≡ keys → SlotsOf k → LastsOf [] k before.last → LastsOf gone k after.last
   pub newest : 0 < i → StampOf gone i stamp
 
-module _ {bytes : List ℕ} {es : List Event} {m : ℕ} (ls : Leads bytes es m) {keys last₀ : List ℕ} where
-  pub followed : {clocks : List ℕ} (stamp : Stamp) → ClocksOf [] clocks → Followed bytes es keys last₀ clocks last₀ stamp 0 0
+module _ {bytes : List ℕ} {es : List Event} {m : ℕ} (ls : Leads bytes es m) {keys : List ℕ} {before : Followed} where
+  pub followed : (stamp : Stamp) → ClocksOf [] before.clocks → FollowedTo bytes es keys before before stamp 0 0
   followed stamp h =
-      record { gone = []; passed = at_start bytes ls.read; count = refl; held = h; lasts = λ slots size so k. k; newest = λ l. absurd (let z : ⊥ = omega arith in z) }
+      record { gone = []; passed = at_start bytes ls.read; count = refl; held = h; lasts = λ k w so h. h; newest = λ l. absurd (let z : ⊥ = omega arith in z) }
 
-  module _ {clocks last : List ℕ} {stamp : Stamp} {at i : ℕ} (f : Followed bytes es keys last₀ clocks last stamp at i) where
+  module _ {after : Followed} {stamp : Stamp} {at i : ℕ} (f : FollowedTo bytes es keys before after stamp at i) where
     pub still_ahead : i < length es → length f.gone < length es
     still_ahead l = let g = f.count in omega arith
 
     pub follows : (l : i < length es) (e : Event) (next : ℕ) → command e next ≡ read_event bytes at
-        → Followed bytes es keys last₀ (clocks_after clocks e) (last_by clocks keys (slot_key (slot_of e)) e last) (stamp_by clocks e) next (i + 1)
+        → FollowedTo bytes es keys before (followed_on keys (slot_key (slot_of e)) e after) (stamp_by after.clocks e) next (i + 1)
     follows l e next q =
         let c = ls.count in
         let few = ls.few in
         let u = still_ahead l in
-        let a = followed_by f.gone clocks e f.held (omega arith) (within_limits_lem f.passed u e next q) in
+        let a = followed_by f.gone after.clocks e f.held (omega arith) (within_limits_lem f.passed u e next q) in
         record {
           gone = f.gone ++ (e ∷ []);
           passed = past_it f.passed u e next q;
           count = length-append f.gone (e ∷ []) ∙ ap (λ (k : ℕ). k + 1) f.count;
           held = a.0.holds;
-          lasts = λ slots size so k. a.1 slots keys size last so (f.lasts slots size so k);
-          newest = λ u. subst (λ (k : ℕ). StampOf (f.gone ++ (e ∷ [])) (k + 1) (stamp_by clocks e)) f.count a.0.stamp;
+          lasts = λ k w so h. rw (sym w) (a.1 k after.last so (f.lasts k w so h));
+          newest = λ u. subst (λ (k : ℕ). StampOf (f.gone ++ (e ∷ [])) (k + 1) (stamp_by after.clocks e)) f.count a.0.stamp;
         }
 
-    pub stamped : (n : ℕ) → i ≡ n → 0 < n → StampedTo es keys n last₀ stamp clocks last
+    pub stamped : (n : ℕ) → i ≡ n → 0 < n → StampedTo es keys n before stamp after
     stamped n q p =
         let c : length f.gone ≡ n = f.count ∙ q in
         let s : StampOf f.gone n stamp = subst (λ (k : ℕ). StampOf f.gone k stamp) q (f.newest (omega arith)) in
-        subst (λ (xs : List Event). StampedTo xs keys n last₀ stamp clocks last) (sym f.passed.whole)
+        subst (λ (xs : List Event). StampedTo xs keys n before stamp after) (sym f.passed.whole)
         (record {
           stamp_is = stamp_stays f.gone f.passed.rest n stamp p (omega arith) s;
           held = rw (take_at f.gone f.passed.rest n c) f.held;

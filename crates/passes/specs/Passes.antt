@@ -14,6 +14,8 @@ use Rattle.clock.specs.declared.Stamp.{Stamp}
 use Rattle.clock.specs.Arrivals.{StampOf, ClocksOf}
 use Rattle.command.specs.Reading.{read_event}
 use Rattle.event_log.specs.Leading.{Leading}
+use Rattle.passes.specs.declared.Sought.{Sought}
+use Rattle.passes.specs.declared.Followed.{Followed}
 
 -- the leading events of a log, n of them
 pub record Leads (bytes : List ℕ) (es : List Event) (n : ℕ) : Type 0 where
@@ -23,16 +25,16 @@ pub record Leads (bytes : List ℕ) (es : List Event) (n : ℕ) : Type 0 where
   pub few : n ≤ events
 
 -- the slots of a pattern, so many of them, their threads within the limit; and their keys
-pub record SlotsOf (slots : List Slot) (keys : List ℕ) (size : ℕ) : Type 0 where
-  pub few : size ≤ slot_limit
-  pub whole : length slots ≡ slot_limit
-  pub keyed : keys ≡ slot_keys slots
-  pub low : (j : ℕ) → j < size → (get_or slots j no_slot).thread < threads
+pub record SlotsOf (k : Sought) : Type 0 where
+  pub few : k.size ≤ slot_limit
+  pub whole : length k.slots ≡ slot_limit
+  pub keyed : k.keys ≡ slot_keys k.slots
+  pub low : (j : ℕ) → j < k.size → (get_or k.slots j no_slot).thread < threads
 
 -- for each slot a place that no event that fits it is above, in its thread
-pub record LastsOf (es : List Event) (slots : List Slot) (size : ℕ) (last : List ℕ) : Type 0 where
+pub record LastsOf (es : List Event) (k : Sought) (last : List ℕ) : Type 0 where
   pub whole : length last ≡ slot_limit
-  pub each : (j : ℕ) → j < size → BoundOf no_event dependent thread_of fits es (get_or slots j no_slot) (get_or last j 0)
+  pub each : (j : ℕ) → j < k.size → BoundOf no_event dependent thread_of fits es (get_or k.slots j no_slot) (get_or last j 0)
 
 -- whether the event of a number fits the slot and has a place in its thread above j
 abbrev pub fills_at : List Event → Slot → ℕ → ℕ → Bool
@@ -44,11 +46,10 @@ FirstAbove es slot j (Some r) = FirstOf (fills_at es slot j) (length es) r
 FirstAbove es slot j None = NoneOf (fills_at es slot j) (length es)
 
 -- the stamp of event number n, and what is kept once it has arrived; before any event the clocks were those of no events
-pub record StampedTo (es : List Event) (keys : List ℕ) (n : ℕ) (last : List ℕ) (stamp : Stamp) (clocks-after last-after : List ℕ) : Type 0 where
+pub record StampedTo (es : List Event) (keys : List ℕ) (n : ℕ) (before : Followed) (stamp : Stamp) (after : Followed) : Type 0 where
   pub stamp_is : StampOf es n stamp
-  pub held : ClocksOf (take n es) clocks-after
-  pub lasts : (slots : List Slot) (size : ℕ) → SlotsOf slots keys size → LastsOf [] slots size last → LastsOf (take n es) slots size last-after
+  pub held : ClocksOf (take n es) after.clocks
+  pub lasts : (k : Sought) → k.keys ≡ keys → SlotsOf k → LastsOf [] k before.last → LastsOf (take n es) k after.last
 
-abbrev pub Stamped : List Event → List ℕ → ℕ → List ℕ → List ℕ → Stamp → List ℕ → List ℕ → Type 0
-Stamped es keys n clocks last stamp clocks-after last-after =
-    0 < n → n ≤ length es → ClocksOf [] clocks → StampedTo es keys n last stamp clocks-after last-after
+abbrev pub Stamped : List Event → List ℕ → ℕ → Followed → Stamp → Followed → Type 0
+Stamped es keys n before stamp after = 0 < n → n ≤ length es → ClocksOf [] before.clocks → StampedTo es keys n before stamp after

@@ -14,7 +14,6 @@ use Rattle.event.specs.declared.Event.{Event}
 use Rattle.event.specs.declared.Slot.{Slot}
 use Rattle.event.specs.Limits.{slots as slot_limit}
 use Rattle.event.specs.Slots.{fits, no_event, no_slot}
-use Rattle.event.specs.Keys.{slot_keys}
 use Rattle.event_log.specs.declared.Pattern.{Pattern}
 use Rattle.event_log.specs.Whole.{accepted, read_log, read_pattern, Renders}
 use Rattle.event_log.proofs.Answers.{told_refused}
@@ -25,13 +24,14 @@ use Rattle.trace.proofs.FirstScan.{join_snoc}
 use Rattle.dependence.specs.Dependence.{dependent}
 use Rattle.dependence.proofs.Dependent.{fit_one_slot}
 use Rattle.first.specs.declared.Search.{Search}
+use Rattle.passes.specs.declared.Sought.{Sought}
 use Rattle.passes.specs.Passes.{SlotsOf}
 use Rattle.first.specs.Holding.{chosen_by, Settled}
 use Rattle.first.proofs.Filling.{no_numbers, ss_length}
 use Rattle.slot_search.specs.declared.LogSearch.{LogSearch}
 use Rattle.slot_search.specs.Patterns.{Usable}
 use Rattle.slot_search.specs.Searching.{SearchedIn, log_refused, searched}
-use Rattle.slot_search.proofs.Usable.{accepted_usable, accepted_slots}
+use Rattle.slot_search.proofs.Usable.{slots_of, accepted_usable, accepted_slots}
 use Rattle.std.specs.Prelude.{Result, Ok, Err, Some, None, is_ok}
 use Rattle.event.specs.declared.refusal.Refused.{Refused}
 use Rattle.session.specs.declared.Verdict.{Verdict}
@@ -67,10 +67,10 @@ greatest_beyond k n xs l z = go n l
             zero_max : (x : ℕ) → max 0 x ≡ x
             zero_max x = omega arith
 
-module _ {slots : List Slot} {keys : List ℕ} {size : ℕ} (so : SlotsOf slots keys size) {es : List Event} {s : Search} (h : Settled es slots size s)
-    (w : s.found ≤ size) where
+module _ {k : Sought} (so : SlotsOf k) {es : List Event} {s : Search} (h : Settled es k.slots k.size s)
+    (w : s.found ≤ k.size) where
   abbrev ss : List Slot
-  ss = take size slots
+  ss = take k.size k.slots
 
   tells : Tells dependent fits ss es (chosen_by s) (drop s.found ss)
   tells = chosen_tells no_event dependent fits fit_one_slot ss es h.found.steps h.stuck
@@ -82,7 +82,7 @@ module _ {slots : List Slot} {keys : List ℕ} {size : ℕ} (so : SlotsOf slots 
   when found = cond found (record { found = Some (greatest_of slot_limit s.numbers); numbers = s.numbers }) (record { found = None; numbers = replicate slot_limit 0 })
 
   -- every slot has its event
-  matching : s.found ≡ size → Said (when true)
+  matching : s.found ≡ k.size → Said (when true)
   matching q = go (subst (Tells dependent fits ss es (chosen_by s)) (drop_of_length-le ss {i = s.found} (rw (ss_length so) (omega arith))) tells)
     where
       count_is : greatest_of slot_limit s.numbers ≡ greatest (chosen_by s)
@@ -107,7 +107,7 @@ module _ {slots : List Slot} {keys : List ℕ} {size : ℕ} (so : SlotsOf slots 
           (λ t. rw (count_is, named_are) f)
 
   -- one has not
-  lacking : s.found < size → Said (when false)
+  lacking : s.found < k.size → Said (when false)
   lacking l = go (subst (Tells dependent fits ss es (chosen_by s)) (drop-cons ss s.found no_slot (rw (ss_length so) l)) tells)
     where
       go : {c : Slot} {left : List Slot} → Tells dependent fits ss es (chosen_by s) (c ∷ left) → Said (when false)
@@ -122,16 +122,13 @@ module _ {slots : List Slot} {keys : List ℕ} {size : ℕ} (so : SlotsOf slots 
           })
           (λ t. absurd (d t))
 
-  verdict : Said (verdict_after size s)
+  verdict : Said (verdict_after k.size s)
   verdict =
-      by_test (eqb s.found size)
+      by_test (eqb s.found k.size)
       (λ q. rw q (matching (eqb-true _ _ q)))
-      (λ q. rw q (lacking (let d = eqb-false s.found size q in omega arith)))
+      (λ q. rw q (lacking (let d = eqb-false s.found k.size q in omega arith)))
 
 -- ---- what a search says of the log
-
-pub slots_of : {p : Pattern} → Usable p → SlotsOf p.slots (slot_keys p.slots) p.size
-slots_of u = record { few = u.few; whole = u.whole; keyed = refl; low = u.low }
 
 pub searched_verdict : {p : Pattern} (u : Usable p) {bytes : List ℕ} (r : Result LogSearch Refused) → SearchedIn p.slots p.size bytes r
     → RunOn (take p.size p.slots) bytes (judged_is (judged_after p.size r))

@@ -1,7 +1,7 @@
 -- An accepted pattern is one that can be looked for.
 use Prim.Native.Nat.{ℕ, zero, suc, ◌+◌, ◌-◌, ◌<◌}
 use native.Mathlib.Omega.{arith}
-use mathlib.Core.Path.{◌≡◌, ap, subst, ◌∙◌}
+use mathlib.Core.Path.{◌≡◌, refl, ap, subst, ◌∙◌}
 use mathlib.Core.List.{List, [], ◌∷◌, ◌++◌}
 use lib.ListN.{length, get_or, take, replicate, length-append, length-replicate}
 use lib.Seq.{take-append_seam}
@@ -13,7 +13,12 @@ use Rattle.command.specs.Bytes.{Bytes}
 use Rattle.event_log.specs.Whole.{InLimits, no_slot_lem, one_slot, GoodPattern, blank, pattern_of, accepted, passed, outcome_of, pattern_from, read_pattern}
 use Rattle.event_log.proofs.Answers.{told_accepted}
 use Rattle.event_log.proofs.PatternRoundTrip.{pattern_iff}
-use Rattle.slot_search.specs.Patterns.{Usable}
+use Rattle.event_log.specs.declared.Pattern.{Pattern}
+use Rattle.passes.specs.Passes.{SlotsOf}
+use Rattle.slot_search.specs.Patterns.{Usable, sought_of}
+
+pub slots_of : {p : Pattern} → Usable p → SlotsOf (sought_of p)
+slots_of u = record { few = u.few; whole = u.whole; keyed = refl; low = u.low }
 
 slots_low : (ss ts : List Slot) → InLimits ss → (j : ℕ) → j < length ss → (get_or (ss ++ ts) j no_slot).thread < threads
 slots_low [] ts no_slot_lem j l = absurd (let f : ⊥ = omega arith in f)

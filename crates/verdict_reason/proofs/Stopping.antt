@@ -36,13 +36,13 @@ use Rattle.slot_search.specs.declared.LogSearch.{LogSearch}
 use Rattle.slot_search.specs.Patterns.{Usable}
 use Rattle.slot_search.specs.Searching as search
 use Rattle.slot_search.specs.Searching.{SearchedIn}
-use Rattle.slot_search.proofs.Usable.{accepted_slots}
+use Rattle.slot_search.proofs.Usable.{slots_of, accepted_slots}
 use Rattle.session.specs.Answers.{Given}
 use Rattle.session.specs.Meaning.{RunOn}
 use Rattle.run.specs.declared.RunRefusal.{RunRefusal}
 use Rattle.run.specs.declared.RunRefusal.TheVariants as refusal
 use Rattle.run.specs.Answers.{judged_is, verdict_after}
-use Rattle.run.proofs.Verdict.{slots_of, searched_verdict, good_pattern}
+use Rattle.run.proofs.Verdict.{searched_verdict, good_pattern}
 use Rattle.verdict_reason.specs.declared.Cause.{Cause}
 use Rattle.verdict_reason.specs.declared.Reasoned.{Reasoned}
 use Rattle.verdict_reason.specs.Reasons.{cause_of, ReasonOn, log_refused, match, no_match, ReasonOf, pattern_refused, over_log, run_part, cause_part, events_part}

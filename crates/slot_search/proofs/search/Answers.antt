@@ -11,9 +11,9 @@ use Rattle.command.proofs.Inversion.{decode_found}
 use Rattle.command.specs.Reading.{command, closed, refused, reading_is}
 use Rattle.event.specs.Refusals.{refusal_number}
 use Rattle.event_log.proofs.LogWalk.{decoded, room, shorter}
-use Rattle.passes.specs.Passes.{SlotsOf}
 use Rattle.passes.proofs.Noting.{none_last}
 use Rattle.first.proofs.Filling.{no_numbers}
+use Rattle.slot_search.proofs.Usable.{slots_of}
 use Rattle.slot_search.proofs.Running.{started, ended, broke, goes_on, fills_it, chosen_next}
 use borrow.Author.Tests.{eq-eqb, ne_eqb}
 use borrow.Author.Rules.{rules}
@@ -21,15 +21,14 @@ use Rattle.slot_search.proofs.search.Goals as goal
 
 pub loop-event-init : goal.loop-event-init
 loop-event-init c = let p = c.requires in
-    let so : SlotsOf c.args.p.slots c.keys_of-keys.result c.args.p.size =
-    record { few = p.few; whole = p.whole; keyed = c.keys_of-keys.ensures; low = p.low } in
-    rw c.none_found-s.ensures
-    (started so p.some c.fresh-state.ensures c.fresh-clocks.ensures.history (none_last so _ (length-replicate {A = ℕ} slot_limit 0) (λ j l. no_numbers j)))
+    rw (c.none_found-s.ensures, c.with_keys-sought.ensures)
+    (started (slots_of p) p.some c.fresh-state.ensures c.fresh-followed.ensures.clocks
+    (rw c.fresh-followed.ensures.last (none_last (slots_of p) _ (length-replicate {A = ℕ} slot_limit 0) (λ j l. no_numbers j))))
 
 pub returns : goal.returns
 returns c =
     let q : reading_is c.step.result ≡ closed = search rules in
-    ended c.loop-event.invariant c.step.ensures.history q
+    rw c.with_keys-sought.ensures at (ended c.loop-event.invariant c.step.ensures.history q)
 
 pub returns-in_err-event : goal.returns-in_err-event
 returns-in_err-event c =
@@ -58,8 +57,8 @@ loop-event-preserved-then-s-key c = let r = c.loop-event.invariant in
     let h = c.step.ensures.history in
     let q : reading_is c.step.result ≡ command c.in-Some.event c.in-Some.next = search rules in
     let n = c.key_at-key.ensures ∙ ap (λ (e : Event). slot_key (slot_of e)) (decode_found true _ _ _ _ (decoded r.going h _ _ q)).event in
-    let f = c.follow-stamp.ensures in
-    rw (f.clocks, f.last, n) (goes_on r h _ _ q (rw (ne_eqb _ _ (λ w. c.if-s-key.true (w ∙ sym n)))))
+    let f = c.stamp_newest-stamp.ensures in
+    rw (f.after, n) (goes_on r h _ _ q (rw (ne_eqb _ _ (λ w. c.if-s-key.true (w ∙ sym n)))))
 
 pub loop-event-smaller-then-not-fills : goal.loop-event-smaller-then-not-fills
 loop-event-smaller-then-not-fills c =
@@ -71,15 +70,15 @@ loop-event-preserved-then-not-fills c = let r = c.loop-event.invariant in
     let h = c.step.ensures.history in
     let q : reading_is c.step.result ≡ command c.in-Some.event c.in-Some.next = search rules in
     let n = c.key_at-key.ensures ∙ ap (λ (e : Event). slot_key (slot_of e)) (decode_found true _ _ _ _ (decoded r.going h _ _ q)).event in
-    let f = c.follow-stamp.ensures in
-    rw (f.clocks, f.last, n) (goes_on r h _ _ q (rw (eq-eqb _ _ (c.if-s-key.false ∙ n)) (sym c.fills.ensures ∙ c.if-not-fills.true)))
+    let f = c.stamp_newest-stamp.ensures in
+    rw (f.after, n) (goes_on r h _ _ q (rw (eq-eqb _ _ (c.if-s-key.false ∙ n)) (sym c.fills.ensures ∙ c.if-not-fills.true)))
 
 pub choose-s-requires : goal.choose-s-requires
 choose-s-requires c = let r = c.loop-event.invariant in
     let h = c.step.ensures.history in
     let q : reading_is c.step.result ≡ command c.in-Some.event c.in-Some.next = search rules in
     let n = c.key_at-key.ensures ∙ ap (λ (e : Event). slot_key (slot_of e)) (decode_found true _ _ _ _ (decoded r.going h _ _ q)).event in
-    (fills_it r h _ _ q (rw (eq-eqb _ _ (c.if-s-key.false ∙ n)) (sym c.fills.ensures ∙ c.if-not-fills.false)), (c.requires.few, let u = room r.going h _ _ q in omega arith))
+    (fills_it r h _ _ q (rw (eq-eqb _ _ (c.if-s-key.false ∙ n)) (sym c.fills.ensures ∙ c.if-not-fills.false)), (rw c.with_keys-sought.ensures c.requires.few, let u = room r.going h _ _ q in omega arith))
 
 pub loop-event-smaller : goal.loop-event-smaller
 loop-event-smaller c =
@@ -91,6 +90,6 @@ loop-event-preserved c = let r = c.loop-event.invariant in
     let h = c.step.ensures.history in
     let q : reading_is c.step.result ≡ command c.in-Some.event c.in-Some.next = search rules in
     let n = c.key_at-key.ensures ∙ ap (λ (e : Event). slot_key (slot_of e)) (decode_found true _ _ _ _ (decoded r.going h _ _ q)).event in
-    let f = c.follow-stamp.ensures in
-    chosen_next r h _ _ q (rw (eq-eqb _ _ (c.if-s-key.false ∙ n)) (sym c.fills.ensures ∙ c.if-not-fills.false)) _ _ _ c.choose-s.ensures.within
-    (λ es ld so t nw. c.choose-s.ensures.settled es ld so t (rw (f.stamp, f.clocks, f.last, n) nw))
+    let f = c.stamp_newest-stamp.ensures in
+    chosen_next r h _ _ q (rw (eq-eqb _ _ (c.if-s-key.false ∙ n)) (sym c.fills.ensures ∙ c.if-not-fills.false)) _ _ c.choose-s.ensures.within
+    (λ es ld so t nw. c.choose-s.ensures.settled es ld so t (rw (f.stamp, f.after, n) nw))

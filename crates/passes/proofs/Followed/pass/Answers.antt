@@ -4,7 +4,7 @@ use borrow.Author.Rules.{rules}
 use Rattle.command.specs.Reading.{command, read_event}
 use Rattle.event_log.proofs.Leading.{not_absent}
 use Rattle.passes.proofs.Passes.{still_ahead, follows, stamped}
-use Rattle.passes.proofs.pass.Goals as goal
+use Rattle.passes.proofs.Followed.pass.Goals as goal
 
 pub returns-in_default : goal.returns-in_default
 returns-in_default c = λ es m ls p u h.
@@ -22,7 +22,7 @@ loop-i-preserved c =
     let q : command c.in-Ok-Some.event c.in-Ok-Some.next ≡ read_event c.args.log.now c.loop-i.at = search rules in (
       omega arith,
       λ es m ls u h.
-          rw (c.follow-stamp.ensures.stamp, c.follow-stamp.ensures.clocks, c.follow-stamp.ensures.last, c.key_of-key.ensures, c.slot_of.ensures)
+          rw (c.follow-stamp.ensures.stamp, c.follow-stamp.ensures.after, c.key_of-key.ensures, c.slot_of.ensures)
           (follows ls (c.loop-i.invariant.1 es m ls u h) (omega arith) _ _ q),
     )
 
