@@ -15,6 +15,7 @@ use clock::Stamp;
 use event::{Event, Slot};
 
 // The slots of a pattern that are looked for, their keys, and how many slots there are.
+// Kept: fixed memory; a key beside each slot, and not in it, so that the keys go by as one row.
 #[derive(Clone, Copy)]
 pub struct Sought {
     pub slots: [Slot; event::SLOTS],
@@ -53,6 +54,8 @@ impl Followed {
     }
 
     // A pass from the start of a log to its event number n: the clocks take each event, the last places are kept. The stamp of that event.
+    // Kept: `first_above`, `event_stamps` and `last_fit` read on by the same lines; as closures their steps, some of which end the pass, would be longer
+    // than these.
     pub fn pass(&mut self, log: &[u8], n: usize, keys: [u16; event::SLOTS]) -> Stamp
         ensures { (es : List Event) (m : ℕ) → Leads log.now es m → Stamped es keys n self.old result self.new }
     {

@@ -48,6 +48,7 @@ fn show_height(mm: i32) {
 }
 
 // Shows what stands at a place, and answers the place after it.
+// Kept: a line of stdin says which of the two it is, here and in `write_either`.
 fn show_at(bytes: &[u8], place: usize, tall: bool) -> Option<usize> {
     if tall {
         return show_event_at(command::read_event(bytes, place));

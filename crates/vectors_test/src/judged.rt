@@ -31,6 +31,7 @@ fn show_relation(relation: Relation) {
 }
 
 // The first order of the log, or the one after a given one.
+// Kept: a line of stdin says which.
 pub(crate) fn given(first: bool, log: &[u8], order: &[u8]) {
     if first {
         show_given(orders_log::first(log));

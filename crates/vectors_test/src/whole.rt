@@ -6,6 +6,7 @@ use command::Reading;
 use event::refusal::Refused;
 
 // A log, or a pattern.
+// Kept: a line of stdin says which, so that here a flag has to choose; below it `copy` takes the reading and the writing.
 pub(crate) fn read(tall: bool, bytes: &[u8]) {
     if tall {
         read_log(bytes);
