@@ -56,6 +56,7 @@ fn before(events: &[u16; SLOTS], k: usize) -> &[u16] {
 }
 
 // The first events of the slots before slot k; 0 where there is none.
+// Kept: it is compared with the row that a reason has, which has 0 there.
 fn chosen(t: Truth, k: usize) -> [u16; SLOTS] {
     let mut events = [0u16; SLOTS];
     for i in 0..k.min(SLOTS) {

@@ -3,6 +3,7 @@ ghost use Rattle.std.specs.Prelude.{◌<◌, ◌≤◌, length};
 ghost use Rattle.io.specs.Counts.{IsPrefixLen};
 
 // The first byte, 0 without one.
+// Kept: a line that is empty is as unknown as one that begins with 0.
 pub(crate) fn first(s: &[u8]) -> u8 {
     s.first().copied().unwrap_or(0)
 }
@@ -49,6 +50,7 @@ fn digit(b: u8) -> u8
 }
 
 // The number that stands after a bar; 0 without one.
+// Kept: a line that leaves the number out means 0 by it.
 pub(crate) fn decimal(s: &[u8], bar: usize) -> usize {
     let mut n: usize = 0;
     for i in bar..s.len() {
