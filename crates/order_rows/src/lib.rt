@@ -11,6 +11,7 @@ ghost use Rattle.order_rows.specs.Rows.{order_places, event_numbered, dependent_
 use event::{Event, Operation};
 
 // Of how many events orders are given, at most.
+// Kept: that a list has no more numbers stands in contracts; with a type that says so each function would build one from a slice of numbers, and prove it.
 pub const PLACES: usize = 8;
 
 // The event of a number; thread 0, mark 0 where there is none.
