@@ -1,0 +1,2 @@
+-- Counts of what test programs saw.
+pub mod Counts
