@@ -69,6 +69,7 @@ pub fn make(buffer: &mut [u8], drawn: u32) -> Draft
 }
 
 // The same with four to seven events of one mix: 1 has many reads, 2 many acquires and releases, 3 many forks and joins, 4 repeats events.
+// Kept: any number will do, and an enum would ask more of who calls this.
 pub fn make_mixed(buffer: &mut [u8], drawn: u32, mix: u8) -> Draft
     ensures { result.at ≤ length buffer.new }
 {

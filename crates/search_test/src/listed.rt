@@ -106,6 +106,7 @@ fn one_more(
 }
 
 // The events at the order's places, counted from 0; 7, which no list has, for a number that is none. Those beyond the list stay where they are.
+// Kept: no order that the search marks has a 7, so that one lookup tells that a row is no order at all.
 fn events_of(row: [u8; PLACES], count: usize) -> [usize; 7] {
     let mut order = [0usize; 7];
     for i in 0..7 {

@@ -4,6 +4,7 @@ use event::refusal::Refused;
 use event::{Event, Operation, Slot, SlotOperation};
 
 // The command that bytes begin with, its numbers not held to their limits; mark 0 of thread 0 where they have none.
+// Kept: the lines have a command there, and an Option would have each answer ask again.
 pub(crate) fn of(bytes: &[u8], tall: bool) -> Event {
     match command::decode(bytes, 0, tall) {
         Ok(Some((event, _))) => event,
@@ -51,31 +52,28 @@ fn show_height(mm: i32) {
 // Kept: a line of stdin says which of the two it is, here and in `write_either`.
 fn show_at(bytes: &[u8], place: usize, tall: bool) -> Option<usize> {
     if tall {
-        return show_event_at(command::read_event(bytes, place));
+        let read = command::read_event(bytes, place);
+        return show_read(read, show_event, console::refused);
     }
-    show_slot_at(command::read_slot(bytes, place))
+    let read = command::read_slot(bytes, place);
+    show_read(read, show_slot, console::pattern_refused)
 }
 
-fn show_event_at(read: Reading<Event>) -> Option<usize> {
+fn show_read<T, S, R>(read: Reading<T>, show: S, refuse: R) -> Option<usize>
+where
+    T: Copy,
+    S: Fn(T),
+    R: Fn(Refused),
+    requires shows { S.IsAlwaysCallable show }
+    requires refuses { R.IsAlwaysCallable refuse }
+{
     match read {
-        Ok(Some((event, next))) => {
-            show_event(event);
+        Ok(Some((shown, next))) => {
+            show(shown);
             return Some(next);
         }
         Ok(None) => console::text(b"end"),
-        Err(refused) => console::refused(refused),
-    }
-    None
-}
-
-fn show_slot_at(read: Reading<Slot>) -> Option<usize> {
-    match read {
-        Ok(Some((slot, next))) => {
-            show_slot(slot);
-            return Some(next);
-        }
-        Ok(None) => console::text(b"end"),
-        Err(refused) => console::pattern_refused(refused),
+        Err(refused) => refuse(refused),
     }
     None
 }

@@ -74,6 +74,7 @@ pub(crate) fn run(log: &[u8], pattern: &[u8]) {
 }
 
 // Writes the replay into the first `room` of 32 bytes EE, and shows all of them.
+// Kept: a length of 0 is shown after a refusal too.
 pub(crate) fn replay(log: &[u8], pattern: &[u8], room: usize) {
     if 32 < room {
         return;
