@@ -5,9 +5,8 @@ use mathlib.Core.Bool.{Bool, true, false}
 use mathlib.Core.List.{List, [], ◌∷◌, ◌++◌, append-nil}
 use native.Mathlib.Numerals.{add-one}
 use native.Mathlib.Omega.{arith}
-use lib.ListN.{length, set, drop, replicate, length-append}
+use lib.ListN.{length, set, length-append}
 use lib.Seq.{append_snoc}
-use Rattle.std.proofs.lemmas.List.{drop-replicate}
 use Rattle.event.proofs.Places.{next_place}
 use Rattle.trace.proofs.Lists.{filter}
 use Rattle.trace.proofs.Runs.{run}
@@ -42,12 +41,11 @@ pub record Filled (p : ℕ → Bool) (n : ℕ) (whole row : List ℕ) (at k : �
   pub rest : put ++ passing p k n ≡ whole
 
 -- the numbers before a place, and one at it
-begun : (xs : List ℕ) (p z : ℕ) → length xs ≡ p → p < order_places → set (xs ++ drop p (replicate order_places 0)) p z ≡ order_row (xs ++ (z ∷ []))
-begun xs p z e l =
-    rw (sym e, drop-replicate {X = ℕ} (length xs) order_places 0) (next_place 0 order_places xs z (omega arith))
+begun : (xs : List ℕ) (p z : ℕ) → length xs ≡ p → p < order_places → set (order_row xs) p z ≡ order_row (xs ++ (z ∷ []))
+begun xs p z e l = rw (sym e) (next_place 0 order_places xs z (omega arith))
 
 pub filled_start : (p : ℕ → Bool) (n : ℕ) (xs : List ℕ) (at z : ℕ) → length xs ≡ at → at < order_places
-    → Filled p n (xs ++ (z ∷ filter p (run 1 n))) (set (xs ++ drop at (replicate order_places 0)) at z) (at + 1) 1
+    → Filled p n (xs ++ (z ∷ filter p (run 1 n))) (set (order_row xs) at z) (at + 1) 1
 filled_start p n xs at z e l = record {
   put = xs ++ (z ∷ []);
   filled = begun xs at z e l;

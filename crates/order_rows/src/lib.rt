@@ -78,7 +78,12 @@ fn raise(order: &[u8], p: usize, z: u8) -> [u8; PLACES]
     ensures { result ≡ order_row (take p order.now ++ (z ∷ refill (length order.now) (drop p order.now) z)) }
 {
     let mut row = [0; PLACES];
-    row[..p].copy_from_slice(&order[..p]);
+    // Kept: a test at each place, since a plain copy makes the library for C need a function from outside.
+    for i in 0..PLACES {
+        if i < p {
+            row[i] = order[i];
+        }
+    }
     row[p] = z;
     let mut at = p + 1;
     for k in 1..order.len() as u8 + 1 {

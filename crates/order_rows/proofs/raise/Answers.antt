@@ -1,6 +1,6 @@
-use Prim.Native.Nat.{ℕ, ◌+◌, ◌≤◌}
+use Prim.Native.Nat.{ℕ, ◌+◌, ◌≤◌, min}
 use native.Mathlib.Omega.{arith}
-use mathlib.Core.Path.{sym, ◌∙◌}
+use mathlib.Core.Path.{◌≡◌, sym, ◌∙◌}
 use mathlib.Core.List.{List, ◌∷◌, ◌++◌}
 use lib.ListN.{length, take, drop, length-append}
 use lib.Seq.{length-take-le}
@@ -20,7 +20,8 @@ pub loop-k-init : goal.loop-k-init
 loop-k-init c = let a = c.args in
     let o = a.order.now in
     let q = c.requires in
-    rw (c.copy_from_slice.ensures.after) (filled_start (remains (drop a.p o) a.z) (length o) (take a.p o) a.p a.z (length-take-le a.p o (omega (arith, q.0))) (omega (arith, q.0, q.1)))
+    let here : min c.loop-i.i a.p ≡ a.p = let w = c.loop-i.invariant.0 in let t = c.loop-i-test.false in omega (arith, q.0, q.1) in
+    rw (c.loop-i.invariant.1, here) (filled_start (remains (drop a.p o) a.z) (length o) (take a.p o) a.p a.z (length-take-le a.p o (omega (arith, q.0))) (omega (arith, q.0, q.1)))
 
 pub bounds-row-at : goal.bounds-row-at
 bounds-row-at c = let a = c.args in
