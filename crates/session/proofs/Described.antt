@@ -9,6 +9,7 @@ use lib.Dec.{eqb}
 use lib.ListN.{length, get_or, replicate, length-append, length-reverse, get_or-append}
 use borrow.Author.Tests.{eqb-true, eq-eqb, ne_eqb}
 use Rattle.std.specs.Prelude.{Result, Ok, Err}
+use Rattle.std.specs.Result.{result_unwrap_or}
 use Rattle.event.specs.declared.Event.{Event}
 use Rattle.event.specs.declared.Slot.{Slot}
 use Rattle.event.specs.declared.refusal.Refused.{Refused}
@@ -257,6 +258,10 @@ used_good bytes b = go (read_pattern bytes) refl
 abbrev pub pattern_used : Result Pattern Refused → Pattern
 pattern_used (Ok p) = p
 pattern_used (Err r) = pattern_of (blank ∷ [])
+
+pub used_or_lone : (r : Result Pattern Refused) (p : Pattern) → p ≡ pattern_of (blank ∷ []) → result_unwrap_or r p ≡ pattern_used r
+used_or_lone (Ok q) p e = refl
+used_or_lone (Err m) p e = e
 
 abbrev refuses : Passing → ℕ
 refuses (passed n) = 0

@@ -80,16 +80,10 @@ impl Session {
     pub fn open(pattern: &[u8]) -> Opened
         ensures { OpenedOn pattern.now result }
     {
-        match event_log::read_pattern(pattern) {
-            Ok(p) => Opened {
-                answer: Ok(p.size),
-                session: fresh(p),
-            },
-            Err(refused) => Opened {
-                answer: Err(refused),
-                session: fresh(lone()),
-            },
-        }
+        let read = event_log::read_pattern(pattern);
+        let answer = read.map(|p| p.size);
+        let session = fresh(read.unwrap_or(lone()));
+        Opened { answer, session }
     }
 
     // Hands over one event. A refused one leaves the session as it was.

@@ -1,15 +1,15 @@
+use borrow.Author.Rules.{rules}
+use mathlib.Core.Path.{◌≡◌, ap, ◌∙◌}
 use Rattle.command.specs.Bytes.{Bytes}
-use mathlib.Core.Path.{ap, ◌∙◌}
+use Rattle.event_log.specs.Whole.{slots_read}
 use Rattle.session.specs.Model.{fresh_on}
-use Rattle.session.proofs.Described.{opened_on}
+use Rattle.session.proofs.Described.{used_or_lone, opened_on}
 use Rattle.session.proofs.Session.open.Goals as goal
 
-pub returns-in-Ok : goal.returns-in-Ok
-returns-in-Ok c =
+pub returns : goal.returns
+returns c =
     let is-bytes : Bytes c.args.pattern.now = λ k. (c.type_inv.pattern k).fits in
-    opened_on _ is-bytes _ c.in-Ok.ensures _ c.fresh.ensures
-
-pub returns-in-Err : goal.returns-in-Err
-returns-in-Err c =
-    let is-bytes : Bytes c.args.pattern.now = λ k. (c.type_inv.pattern k).fits in
-    opened_on _ is-bytes _ c.in-Err.ensures _ (c.fresh-in-Err.ensures ∙ ap fresh_on c.lone.ensures)
+    let read = c.read_pattern-read in
+    let told : c.map-answer.result ≡ slots_read read.result = search rules in
+    let used = c.unwrap_or.ensures ∙ used_or_lone read.result c.lone.result c.lone.ensures in
+    rw told (opened_on _ is-bytes read.result read.ensures _ (c.fresh-session.ensures ∙ ap fresh_on used))
