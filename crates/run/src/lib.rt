@@ -4,11 +4,12 @@
 ghost use Rattle.std.specs.Prelude.{◌≡◌};
 ghost use Rattle.event.specs.Limits.{slots as slot_limit};
 ghost use Rattle.session.specs.Meaning.{RunOf};
-ghost use Rattle.run.specs.Answers.{judged_is, verdict_after, greatest_of};
+ghost use Rattle.run.specs.Answers.{judged_is, judged_after, verdict_after, greatest_of};
 
 use event::refusal::Refused;
 use first::Search;
 use session::Verdict;
+use slot_search::LogSearch;
 
 // What is refused: the pattern, or the log.
 #[derive(Clone, Copy, PartialEq, Eq)]
@@ -23,12 +24,21 @@ pub fn run(pattern: &[u8], log: &[u8]) -> Result<Verdict, RunRefusal>
     ensures { RunOf pattern.now log.now (judged_is result) }
 {
     let p = event_log::read_pattern(pattern).map_err(|refused| RunRefusal::Pattern(refused))?;
-    let searched = slot_search::search(p, log).map_err(|refused| RunRefusal::Log(refused))?;
-    Ok(judge(p.size, searched.search))
+    judge(p.size, slot_search::search(p, log))
 }
 
-// What a search for so many slots says at a log's end: the count is the greatest number.
-pub fn judge(size: usize, s: Search) -> Verdict
+// What a search for so many slots says of the log: the verdict at its end, or the log's refusal.
+pub fn judge(size: usize, searched: Result<LogSearch, Refused>) -> Result<Verdict, RunRefusal>
+    ensures { result ≡ judged_after size searched }
+{
+    match searched {
+        Ok(searched) => Ok(verdict_after(size, searched.search)),
+        Err(refused) => Err(RunRefusal::Log(refused)),
+    }
+}
+
+// The verdict at a log's end: the count is the greatest number.
+pub fn verdict_after(size: usize, s: Search) -> Verdict
     ensures { result ≡ verdict_after size s }
 {
     if s.found != size {

@@ -33,7 +33,13 @@ pub fn search(p: Pattern, log: &[u8]) -> Result<LogSearch, Refused>
     let mut s = first::none_found(&sought);
     let mut taken: usize = 0;
     let mut at: usize = 0;
-    while let Some((event, next)) = event_log::step(log, at, &mut state, taken)? {
+    loop {
+        let Some((event, next)) = event_log::step(log, at, &mut state, taken)? else {
+            return Ok(LogSearch {
+                events: taken,
+                search: s,
+            });
+        };
         taken += 1;
         let key = command::key_at(log, at);
         at = next;
@@ -47,10 +53,6 @@ pub fn search(p: Pattern, log: &[u8]) -> Result<LogSearch, Refused>
         }
         s = first::choose(log, &sought, s, taken, &mut followed, stamp);
     }
-    Ok(LogSearch {
-        events: taken,
-        search: s,
-    })
 }
 
 // The slots of a pattern with their keys.

@@ -45,7 +45,7 @@ pub fn reason(pattern: &[u8], log: &[u8]) -> Result<Reasoned, RunRefusal>
     let p = event_log::read_pattern(pattern).map_err(|refused| RunRefusal::Pattern(refused))?;
     let searched = slot_search::search(p, log).map_err(|refused| RunRefusal::Log(refused))?;
     let s = searched.search;
-    let verdict = run::judge(p.size, s);
+    let verdict = run::verdict_after(p.size, s);
     let k = s.found;
     if k == p.size {
         return Ok(Reasoned {

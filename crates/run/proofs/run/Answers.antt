@@ -15,5 +15,4 @@ pub returns : goal.returns
 returns c =
     let is-bytes : Bytes c.args.pattern.now = λ k. (c.type_inv.pattern k).fits in
     let q : c.read_pattern.result ≡ Ok c.in_ok-p.p = search rules in
-    let s : c.search.result ≡ Ok c.in_ok-searched.searched = search rules in
-    rw c.judge.ensures (run_on c.args.pattern.now c.in_ok-p.p (rw q at c.read_pattern.ensures) is-bytes (Ok c.in_ok-searched.searched) (rw s at c.search.ensures))
+    rw c.judge.ensures (run_on c.args.pattern.now c.in_ok-p.p (rw q at c.read_pattern.ensures) is-bytes c.search.result c.search.ensures)

@@ -25,8 +25,8 @@ loop-event-init c = let p = c.requires in
     (started (slots_of p) p.some c.fresh-state.ensures c.fresh-followed.ensures.clocks
     (rw c.fresh-followed.ensures.last (none_last (slots_of p) _ (length-replicate {A = ℕ} slot_limit 0) (λ j l. no_numbers j))))
 
-pub returns : goal.returns
-returns c =
+pub returns-in_default : goal.returns-in_default
+returns-in_default c =
     let q : reading_is c.step.result ≡ closed = search rules in
     rw c.with_keys-sought.ensures at (ended c.loop-event.invariant c.step.ensures.history q)
 

@@ -32,7 +32,7 @@ returns-then-k-p c =
     let s : c.search.result ≡ Ok c.in_ok-searched.searched = search rules in
     let h = rw q at c.read_pattern.ensures in
     let u = good_pattern c.args.pattern.now c.in_ok-p.p h is-bytes in
-    rw c.judge-verdict.ensures
+    rw c.verdict_after-verdict.ensures
     (over c.args.pattern.now c.in_ok-p.p h is-bytes (when_found u c.in_ok-searched.searched (rw s at c.search.ensures) c.if-k-p.true))
 
 pub returns : goal.returns
@@ -42,5 +42,5 @@ returns c =
     let s : c.search.result ≡ Ok c.in_ok-searched.searched = search rules in
     let h = rw q at c.read_pattern.ensures in
     let u = good_pattern c.args.pattern.now c.in_ok-p.p h is-bytes in
-    rw c.judge-verdict.ensures
+    rw c.verdict_after-verdict.ensures
     (over c.args.pattern.now c.in_ok-p.p h is-bytes (when_stopped u c.in_ok-searched.searched (rw s at c.search.ensures) c.if-k-p.false c.cause_of-cause.ensures))
