@@ -2,6 +2,7 @@
 #![tactic(auto)]
 
 ghost use Rattle.std.specs.Prelude.{◌+◌, ◌-◌, ◌*◌, ◌≤◌, length, SomeIff, IfSome};
+ghost use Rattle.io.specs.Counts.{IsPrefixLen};
 ghost use Rattle.arguments.specs.Numerals.{Extends, NumberGiven, PairGiven};
 
 use std::env::FillError;
@@ -57,7 +58,7 @@ pub fn given_pair(rt: &impl Env) -> Option<(u64, u64)> {
     let mut second = [0u8; FIGURES];
     let m = arg(rt, 1, &mut first)?;
     let n = arg(rt, 2, &mut second)?;
-    pair_of(given, m, n)
+    pair_of(given, &first[..m], &second[..n])
 }
 
 // How many arguments this program was started with, its own name among them.
@@ -67,10 +68,10 @@ pub fn arg_count(rt: &impl Env) -> usize {
         .unwrap_or(usize::MAX)
 }
 
-// The n-th argument, put at the start of a space: none where there is no such argument, or where it is longer than the space.
-pub fn arg<'a>(rt: &impl Env, n: usize, space: &'a mut [u8]) -> Option<&'a [u8]>
-    ensures { IfSome result (λ given. length given.now ≤ length space.old) }
+// Puts the n-th argument at the start of a space: how many bytes it has; none where there is no such argument, or where it is longer than the space.
+// Kept: a length and not a slice, since what a lent slice leaves of its space takes a proof by hand to say.
+pub fn arg(rt: &impl Env, n: usize, space: &mut [u8]) -> Option<usize>
+    ensures { IfSome result (λ size. IsPrefixLen size space.new × size ≤ length space.old) }
 {
-    let size = rt.arg(n, space).ok()?;
-    Some(&space[..size])
+    rt.arg(n, space).ok()
 }

@@ -5,7 +5,6 @@
 ghost use Rattle.std.specs.Prelude.{◌≡◌, ◌≤◌, length};
 ghost use Rattle.drawn.specs.Drawing.{is_accepted, place_after};
 
-use event::refusal::Refused;
 use event::{Event, Operation};
 
 // A log under way: the place after it, and the last number drawn.
@@ -152,7 +151,7 @@ fn takes(buffer: &mut [u8], end: usize) -> bool {
 }
 
 // Whether a log is accepted.
-pub fn accepted(read: Result<usize, Refused>) -> bool
+pub fn accepted<E: Copy>(read: Result<usize, E>) -> bool
     ensures { result ≡ is_accepted read }
 {
     read.is_ok()
@@ -316,7 +315,7 @@ fn drawn_operation(kind: Kind, object: u8, child: u8, high: bool) -> Operation {
 }
 
 // The next write place; the old one after a refusal.
-pub fn place_after(w: Result<usize, Refused>, at: usize) -> usize
+pub fn place_after<E: Copy>(w: Result<usize, E>, at: usize) -> usize
     ensures { result ≡ place_after w at }
 {
     w.unwrap_or(at)

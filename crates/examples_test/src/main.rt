@@ -115,9 +115,9 @@ fn order(rt: &impl Files, folder: &[u8], pair: Option<(u64, u64)>, due: &[u8]) {
 // The example whose folder is the n-th argument.
 fn example<R: Env + Files>(rt: &R, n: usize) {
     let mut space = [0u8; NAMES];
-    let folder = arguments::arg(rt, n, &mut space).unwrap_or(b"");
-    listing(rt, folder);
-    reason(rt, folder);
+    let size = arguments::arg(rt, n, &mut space).unwrap_or(0);
+    listing(rt, &space[..size]);
+    reason(rt, &space[..size]);
 }
 
 fn listing(rt: &impl Files, folder: &[u8]) {

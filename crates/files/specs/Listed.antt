@@ -17,5 +17,5 @@ pub record SomeOrder (pair : Option (ℕ × ℕ)) (before after : List ℕ) (r :
   pub put : PutIn (OrderText log pair) before after r
 
 -- what was written at the start of a page lies within it
-abbrev pub InPage : Result ℕ Refused → List ℕ → Type 0
+abbrev pub InPage : {E : Type 0} → Result ℕ E → List ℕ → Type 0
 InPage r page = (at : ℕ) → r ≡ Ok at → IsPrefixLen at page

@@ -12,7 +12,6 @@ ghost use Rattle.files.specs.Listed.{SomeText, SomeOrder, InPage};
 ghost use Rattle.files.specs.Paths.{Appended, SpareName};
 
 use event::refusal::Refused;
-use load_text::LoadError;
 use std::fs::{File, OpenFile};
 use std::io::{Eprint, Error, ErrorKind, Print, Read, Write};
 use std::rt::Files;
@@ -112,13 +111,15 @@ pub fn read_opened<F: Read + Drop>(file: Option<F>, space: &mut [u8]) -> usize
     read_full(&mut file, space)
 }
 
-// Reads until the space is full, the file ends or a read fails, and answers how many bytes it put at the start of the space. What is left of a full
-// space has room for no byte.
+// Reads until the space is full, the file ends or a read fails, and answers how many bytes it put at the start of the space. A full space is not read into.
 fn read_full(file: &mut impl Read, space: &mut [u8]) -> usize
     ensures { IsPrefixLen result space.new }
 {
     let mut done = 0;
-    while let Ok(n @ 1..) = file.read(&mut space[done..]) {
+    while done < space.len() {
+        let Ok(n @ 1..) = file.read(&mut space[done..]) else {
+            break;
+        };
         done += n;
     }
     done
@@ -143,9 +144,9 @@ pub fn save_replay<R: Files + ProcessId>(
 }
 
 // Writes load.bin, where a load was made at the start of the space. Where none was made no file is touched; where it fails, load.bin is what it was.
-pub fn save_load<R: Files + ProcessId>(
+pub fn save_load<R: Files + ProcessId, E: Copy>(
     rt: &R,
-    made: Result<usize, LoadError>,
+    made: Result<usize, E>,
     space: &[u8],
 ) -> std::io::Result<()>
     requires { LogWithin made space.now }
@@ -218,11 +219,11 @@ fn append(path: &mut [u8], from: usize, bytes: &[u8]) -> usize
 }
 
 // Prints what was written at the start of a page, under the name of the program.
-pub fn print_written<R: Print + Eprint>(
+pub fn print_written<R: Print + Eprint, E: Copy>(
     rt: &R,
     program: &[u8],
     page: &[u8],
-    written: Result<usize, Refused>,
+    written: Result<usize, E>,
 )
     requires { InPage written page.now }
 {

@@ -1,5 +1,6 @@
 -- What the program `load` makes of its arguments, in a space for the log, and the line that it prints.
 use Rattle.std.specs.Prelude.{ℕ, ◌^◌, ◌≤◌, ◌≡◌, cond, List, ◌++◌, ltb, length, Option, Some, None, Result, Ok, Err}
+use Rattle.event.specs.declared.refusal.Refused.{Refused}
 use Rattle.event.specs.Refusals.{refusal_number}
 use Rattle.writer.specs.Writing.{Writing, written, refused}
 use Rattle.page.specs.Text.{ascii, decimal}
@@ -23,9 +24,13 @@ abbrev pub space_after : Option (ℕ × ℕ) → List ℕ → List ℕ
 space_after None space = space
 space_after (Some (seed, count)) space = loaded seed count space
 
+-- a refusal by its number
+abbrev pub told : Refused → LoadError
+told r = load_error.Refused (refusal_number r.reason) r.offset
+
 abbrev pub made_is : Result ℕ LoadError → Option Writing
 made_is (Ok n) = Some (written n)
-made_is (Err (load_error.Refused r)) = Some (refused (refusal_number r.reason) r.offset)
+made_is (Err (load_error.Refused k o)) = Some (refused k o)
 made_is (Err load_error.Usage) = None
 
 -- "`N bytes`, N the length written"; "A refusal is `refused K at B`"; "one line, `usage: ` and its usage as in the table". "Each line ends in a line feed."
@@ -35,5 +40,5 @@ load_line (Some (refused k o)) = refusal_line k o
 load_line None = ascii "usage: load SEED COUNT\n"
 
 -- a log that was made lies within its space
-abbrev pub LogWithin : Result ℕ LoadError → List ℕ → Type 0
+abbrev pub LogWithin : {E : Type 0} → Result ℕ E → List ℕ → Type 0
 LogWithin m space = (n : ℕ) → m ≡ Ok n → n ≤ length space

@@ -27,7 +27,7 @@ fn all(rt: &impl Print, log: &[u8]) -> io::Result<()> {
     let mut given = begun.given;
     while let Ok(Some(row)) = given {
         given = orders_log::next(log, &row);
-        let written = orders_text::write(given, &mut page);
+        let written = orders_text::write(orders_text::line_of(given), &mut page);
         print(rt, &page, written)?;
     }
     Ok(())

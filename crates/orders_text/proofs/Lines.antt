@@ -8,8 +8,7 @@ use lib.Dec.{eqb}
 use lib.ListN.{length, get_or, length-append}
 use borrow.Author.Tests.{eq-eqb, ne_eqb}
 use Rattle.std.specs.Prelude.{Option as Maybe, Some, None, Result, Ok, Err}
-use Rattle.event.specs.declared.refusal.Refused.{Refused}
-use Rattle.event.specs.Refusals.{refusal_number}
+use Rattle.event.specs.declared.refusal.Refused as event
 use Rattle.page.specs.Text.{ascii, decimal}
 use Rattle.page.specs.Lines.{longest, too_long_line}
 use Rattle.page.specs.Page.{room, onto, PutIn}
@@ -19,9 +18,10 @@ use Rattle.page.proofs.Onto.{onto_append}
 use Rattle.page.proofs.Lengths.{number, refusal}
 use Rattle.order_rows.specs.Rows.{order_places}
 use Rattle.orders_log.specs.declared.OrdersRefusal.{OrdersRefusal}
-use Rattle.orders_log.specs.declared.OrdersRefusal.TheVariants as case
 use Rattle.orders_log.specs.OrderCalls.{FirstGives, GivesSo}
-use Rattle.orders_text.specs.OrdersText.{at_place, line_from, numbers_before_zero, given_line, Begins, long}
+use Rattle.orders_text.specs.declared.Line.{Line}
+use Rattle.orders_text.specs.declared.Line.TheVariants.{Order, Nothing, Refused}
+use Rattle.orders_text.specs.OrdersText.{at_place, line_from, numbers_before_zero, line_text, given_line, Begins, long}
 use Rattle.orders_text.specs.OrdersText as orders_text_module
 
 -- ---- number after number
@@ -77,15 +77,14 @@ line_length row i (suc m) j =
     (λ t. rw t (omega arith))
     (λ f. let h = line_length row (suc i) m (suc j) in let k = place_length j (get_or row i 0) in rw (f, length-append) (omega arith))
 
-pub given_length : (g : Result (Maybe (List ℕ)) OrdersRefusal) → length (given_line g) ≤ room
-given_length (Ok (Some row)) = let h = line_length row 0 order_places 0 in omega arith
-given_length (Ok None) = omega arith
-given_length (Err (case.Log r)) = let h = refusal (refusal_number r.reason) r.offset in omega arith
-given_length (Err (case.Orders r)) = let h = refusal (refusal_number r.reason) r.offset in omega arith
+pub text_length : (l : Line) → length (line_text l) ≤ room
+text_length (Order row) = let h = line_length row 0 order_places 0 in omega arith
+text_length Nothing = omega arith
+text_length (Refused k o) = let h = refusal k o in omega arith
 
 -- ---- what is printed first
 
-module _ {log before after : List ℕ} {w : Result ℕ Refused} where
+module _ {log before after : List ℕ} {w : Result ℕ event.Refused} where
   pub begins_long : longest < length log → PutIn (λ text. text ≡ too_long_line) before after w → PutIn (λ text. Begins log text (Ok None)) before after w
   begins_long l p = record { text = p.text; kind = rw p.kind (long l); short = p.short; answer = p.answer; buffer = p.buffer }
 

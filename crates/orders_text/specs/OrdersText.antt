@@ -8,6 +8,8 @@ use Rattle.order_rows.specs.Rows.{order_places}
 use Rattle.orders_log.specs.declared.OrdersRefusal.{OrdersRefusal}
 use Rattle.orders_log.specs.declared.OrdersRefusal.TheVariants as case
 use Rattle.orders_log.specs.OrderCalls.{Giving, order, last, log_refused, orders_refused, FirstGives, GivesSo}
+use Rattle.orders_text.specs.declared.Line.{Line}
+use Rattle.orders_text.specs.declared.Line.TheVariants.{Order, Nothing, Refused}
 
 -- "event numbers with a space between them": the number at a place, counted from 0, with a space before it where it is not the first
 abbrev pub at_place : ℕ → ℕ → List ℕ
@@ -33,6 +35,11 @@ giving_line (orders_refused k o) = refusal_line k o
 unfoldable pub numbers_before_zero : List ℕ → ℕ → ℕ → List ℕ
 numbers_before_zero row i zero = []
 numbers_before_zero row i (suc m) = cond (eqb (get_or row i 0) 0) [] (get_or row i 0 ∷ numbers_before_zero row (suc i) m)
+
+abbrev pub line_text : Line → List ℕ
+line_text (Order row) = order_line (numbers_before_zero row 0 order_places)
+line_text Nothing = []
+line_text (Refused k o) = refusal_line k o
 
 abbrev pub given_line : Result (Maybe (List ℕ)) OrdersRefusal → List ℕ
 given_line (Ok (Some row)) = order_line (numbers_before_zero row 0 order_places)

@@ -4,12 +4,21 @@
 ghost use Rattle.std.specs.Prelude.{◌≡◌, List, ℕ, length};
 ghost use Rattle.page.specs.Page.{empty_page, onto, PutIn};
 ghost use Rattle.order_rows.specs.Rows.{order_places};
-ghost use Rattle.orders_text.specs.OrdersText.{at_place, order_line, numbers_before_zero, given_line, Begins};
+ghost use Rattle.orders_text.specs.OrdersText.{at_place, order_line, numbers_before_zero, line_text, given_line, Begins};
 
 use event::refusal::Refused;
 use order_rows::PLACES;
 use orders_log::{Given, OrdersRefusal};
 use page::Page;
+
+// What a line says: an order's event numbers, up to the first 0; nothing, after the last order; or a refusal.
+// Kept: a refusal by its number and not by its reason, since the line is promised for any number (`write`, `line_text`).
+#[derive(Clone, Copy)]
+pub enum Line {
+    Order([u8; PLACES]),
+    Nothing,
+    Refused { number: u8, offset: usize },
+}
 
 // The text of the first call, and what it gave.
 #[derive(Clone, Copy)]
@@ -30,25 +39,39 @@ pub fn begin(log: &[u8], buffer: &mut [u8]) -> Begun
         };
     }
     let given = orders_log::first(log);
-    let written = write(given, buffer);
+    let written = write(line_of(given), buffer);
     Begun { written, given }
 }
 
-// Writes the line of what a call gave at the start of a lent buffer; no byte after the last order.
-pub fn write(given: Given, buffer: &mut [u8]) -> Result<usize, Refused>
-    ensures { PutIn (λ (text : List ℕ). text ≡ given_line given) buffer.old buffer.new result }
+// The line of what a call gave.
+pub fn line_of(given: Given) -> Line
+    ensures { line_text result ≡ given_line given }
 {
-    line(given).put(buffer)
+    match given {
+        Ok(Some(row)) => Line::Order(row),
+        Ok(None) => Line::Nothing,
+        Err(OrdersRefusal::Log(r) | OrdersRefusal::Orders(r)) => Line::Refused {
+            number: r.reason.number(),
+            offset: r.offset,
+        },
+    }
+}
+
+// Writes a line at the start of a lent buffer; no byte after the last order.
+pub fn write(line: Line, buffer: &mut [u8]) -> Result<usize, Refused>
+    ensures { PutIn (λ (text : List ℕ). text ≡ line_text line) buffer.old buffer.new result }
+{
+    on_page(line).put(buffer)
 }
 
 #[tactic(auto, using(page::proofs::Onto::onto_none))]
-fn line(given: Given) -> Page
-    ensures { result ≡ onto empty_page (given_line given) }
+fn on_page(line: Line) -> Page
+    ensures { result ≡ onto empty_page (line_text line) }
 {
-    match given {
-        Ok(Some(row)) => row_line(&row),
-        Ok(None) => page::empty(),
-        Err(OrdersRefusal::Log(r) | OrdersRefusal::Orders(r)) => page::empty().refused(r),
+    match line {
+        Line::Order(row) => row_line(&row),
+        Line::Nothing => page::empty(),
+        Line::Refused { number, offset } => page::empty().refusal(number, offset),
     }
 }
 

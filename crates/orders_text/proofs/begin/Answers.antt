@@ -17,4 +17,4 @@ returns-then-log-gt-LONGEST c =
 
 pub returns : goal.returns
 returns c = let l = c.if-log-gt-LONGEST.false in
-    begins_short (omega arith) c.first-given.ensures c.write-written.ensures
+    begins_short (omega arith) c.first-given.ensures (rw c.line_of.ensures at c.write-written.ensures)

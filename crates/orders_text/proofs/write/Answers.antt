@@ -1,9 +1,9 @@
 use mathlib.Core.Path.{refl}
 use Rattle.page.proofs.PutIn.{put_in}
-use Rattle.orders_text.specs.OrdersText.{given_line}
-use Rattle.orders_text.proofs.Lines.{given_length}
+use Rattle.orders_text.specs.OrdersText.{line_text}
+use Rattle.orders_text.proofs.Lines.{text_length}
 use Rattle.orders_text.proofs.write.Goals as goal
 
 pub returns : goal.returns
-returns c = let g = c.args.given in
-    put_in (record { text = given_line g; kind = refl; short = given_length g; page = c.line.ensures }) (c.put.ensures.answer, c.put.ensures.after)
+returns c = let l = c.args.line in
+    put_in (record { text = line_text l; kind = refl; short = text_length l; page = c.on_page.ensures }) (c.put.ensures.answer, c.put.ensures.after)
