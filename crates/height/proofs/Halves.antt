@@ -80,6 +80,9 @@ module _ (n : ℕ) where
   over_even : is_half n ≡ true → n / 100 % 2 ≡ 0 → n / 100 ≡ half_to_even n
   over_even h o = rw h (omega arith)
 
+  pub at_most : half_to_even n ≤ away_from_zero n
+  at_most = by_half (λ u. u ≤ away_from_zero n) (λ h. omega (arith, eqb-true)) (λ h. omega arith)
+
 -- ---- the same of heights
 
 -- two roundings that agree on the magnitude agree on the height
