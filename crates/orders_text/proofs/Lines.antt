@@ -9,6 +9,7 @@ use lib.ListN.{length, get_or, length-append}
 use borrow.Author.Tests.{eq-eqb, ne_eqb}
 use Rattle.std.specs.Prelude.{Option as Maybe, Some, None, Result, Ok, Err}
 use Rattle.event.specs.declared.refusal.Refused as event
+use Rattle.event.specs.Refusals.{refusal_number}
 use Rattle.page.specs.Text.{ascii, decimal}
 use Rattle.page.specs.Lines.{longest, too_long_line}
 use Rattle.page.specs.Page.{room, onto, PutIn}
@@ -18,6 +19,7 @@ use Rattle.page.proofs.Onto.{onto_append}
 use Rattle.page.proofs.Lengths.{number, refusal}
 use Rattle.order_rows.specs.Rows.{order_places}
 use Rattle.orders_log.specs.declared.OrdersRefusal.{OrdersRefusal}
+use Rattle.orders_log.specs.declared.OrdersRefusal.TheVariants as case
 use Rattle.orders_log.specs.OrderCalls.{FirstGives, GivesSo}
 use Rattle.orders_text.specs.declared.Line.{Line}
 use Rattle.orders_text.specs.declared.Line.TheVariants.{Order, Nothing, Refused}
@@ -81,6 +83,13 @@ pub text_length : (l : Line) → length (line_text l) ≤ room
 text_length (Order row) = let h = line_length row 0 order_places 0 in omega arith
 text_length Nothing = omega arith
 text_length (Refused k o) = let h = refusal k o in omega arith
+
+-- and so that of what a call gives
+pub given_length : (g : Result (Maybe (List ℕ)) OrdersRefusal) → length (given_line g) ≤ room
+given_length (Ok (Some row)) = text_length (Order row)
+given_length (Ok None) = text_length Nothing
+given_length (Err (case.Log r)) = text_length (Refused (refusal_number r.reason) r.offset)
+given_length (Err (case.Orders r)) = text_length (Refused (refusal_number r.reason) r.offset)
 
 -- ---- what is printed first
 
