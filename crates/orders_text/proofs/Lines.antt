@@ -79,12 +79,13 @@ line_length row i (suc m) j =
     (λ t. rw t (omega arith))
     (λ f. let h = line_length row (suc i) m (suc j) in let k = place_length j (get_or row i 0) in rw (f, length-append) (omega arith))
 
+-- every line fits a page
 pub text_length : (l : Line) → length (line_text l) ≤ room
 text_length (Order row) = let h = line_length row 0 order_places 0 in omega arith
 text_length Nothing = omega arith
 text_length (Refused k o) = let h = refusal k o in omega arith
 
--- and so that of what a call gives
+-- so does the line of what a call gives: for one who has the answer and not its line, which nothing here has, as `line_of` comes before `write`
 pub given_length : (g : Result (Maybe (List ℕ)) OrdersRefusal) → length (given_line g) ≤ room
 given_length (Ok (Some row)) = text_length (Order row)
 given_length (Ok None) = text_length Nothing
